@@ -1,0 +1,23 @@
+//! The trees of a program of GobPie's C profile, as plain data: syntax trees with their names
+//! resolved, and the graphs that they become.
+#![tactic(auto)]
+
+mod boxed;
+mod expr;
+mod graph;
+mod memory;
+mod place;
+mod seq;
+mod stmt;
+mod text;
+mod unit;
+
+pub use boxed::Boxed;
+pub use expr::{BinOp, Expr, UnOp, Width, copy_exprs};
+pub use graph::{Action, Edge, FuncGraph, Program};
+pub use memory::Memory;
+pub use place::Place;
+pub use seq::Seq;
+pub use stmt::{Placed, Stmt, Target};
+pub use text::Text;
+pub use unit::{FuncKind, Function, GlobalDecl, Slot, Unit};
