@@ -21,3 +21,6 @@ pub use seq::Seq;
 pub use stmt::{Placed, Stmt, Target};
 pub use text::Text;
 pub use unit::{FuncKind, Function, GlobalDecl, Slot, Unit};
+
+#[cfg(test)]
+mod tests;
