@@ -1,13 +1,8 @@
-// A library with one function.
+//! Intervals of whole numbers: what is known of a variable.
 #![tactic(auto)]
 
-ghost use Rattle.std.specs.Prelude.{◌≡◌};
-ghost use Rattle.interval_dom.specs.Echo.{echo_of};
+mod interval;
+mod width;
 
-// The `ensures` clause is the contract: what `echo` returns is `echo_of` of its argument, a definition
-// in `specs/Echo.antt`, which a caller's clause can cite too.
-pub fn echo(x: usize) -> usize
-    ensures { result ≡ echo_of x }
-{
-    x
-}
+pub use interval::Interval;
+pub use width::Width;

@@ -1,4 +1,4 @@
-use Rattle.std.proofs.Common.{rules, ◌^◌, ◌<◌, sym, ◌∙◌}
+use Rattle.std.proofs.Common.{rules, ◌^◌, ◌<◌, sym}
 use Rattle.lockset_dom.proofs.Membership.{Holds-without_member, without_member-cleared, without_member-above, Holds-untouched}
 use Rattle.lockset_dom.proofs.locks.Locks.remove.Goals as goal
 
