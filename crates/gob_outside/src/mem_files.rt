@@ -1,0 +1,122 @@
+ghost use Rattle.std.specs.Prelude.{◌≡◌, ◌≢◌, ℕ, ◌≤◌, ◌<◌, List, length, unwrap_or, option_map, Option, Some, None, Ok, IfOk, IfErr, MatchResult, MatchOption, vec_len};
+ghost use Rattle.std.specs.BTreeMap.{get_by_text};
+ghost use Rattle.gob_outside.specs.declared.files.FileFail.{FileFail};
+ghost use Rattle.gob_outside.specs.Count.{Rose, one_more};
+ghost use Rattle.gob_outside.specs.Faults.{count_of, noted};
+ghost use Rattle.gob_outside.specs.MemSink.{fails_next};
+ghost use Rattle.gob_outside.specs.MemFiles.{content_of, load_answer};
+
+use crate::faults::{FaultCounts, note};
+use crate::files::{FileFail, Files};
+use gob_tree::{Memory, Text};
+use std::alloc::Global;
+use std::collections::BTreeMap;
+
+/// Files in memory, by name; of two files of one name the first counts.
+#[derive(Drop)]
+pub struct MemFiles {
+    files: Vec<(Text, Vec<u8>)>,
+    failing: Vec<u64>,
+    calls: u64,
+    faults: FaultCounts,
+}
+
+impl MemFiles {
+    /// These files, of which no load was made yet. `failing` lists the loads that are to fail,
+    /// counted from 1. `Memory` is want of memory.
+    pub fn new(
+        alloc: Global,
+        files: Vec<(Text, Vec<u8>)>,
+        failing: Vec<u64>,
+    ) -> Result<MemFiles, Memory>
+        ensures files { IfOk result (λ held. held.files ≡ files) }
+        ensures failing { IfOk result (λ held. held.failing ≡ failing) }
+        ensures calls { IfOk result (λ held. held.calls ≡ 0) }
+        ensures faults { (name : List ℕ) → IfOk result (λ held. get_by_text held.faults name ≡ None) }
+    {
+        Ok(MemFiles {
+            files,
+            failing,
+            calls: 0,
+            faults: BTreeMap::new(alloc),
+        })
+    }
+}
+
+// The bytes of the first file of a name.
+fn content<'a>(files: &'a [(Text, Vec<u8>)], name: &str) -> Option<&'a [u8]>
+    ensures { MatchOption result (content_of files.now name.now ≡ None)
+        (λ bytes. content_of files.now name.now ≡ Some bytes.now) }
+{
+    for file in files {
+        if file.0.as_bytes() == name.as_bytes() {
+            return Some(file.1.as_slice());
+        }
+    }
+    None
+}
+
+// Why a load failed: `Failed` where that could be noted.
+fn failure(counts: &mut FaultCounts, alloc: Global, name: &str) -> FileFail
+    ensures failed { (other : List ℕ) → result ≡ FileFail.Failed → count_of counts.new other
+        ≡ noted (count_of counts.old) name.now other }
+    ensures rose { result ≡ FileFail.Failed
+        → Rose (count_of counts.old name.now) (count_of counts.new name.now) }
+    ensures never_falls { (other : List ℕ) → count_of counts.old other ≤ count_of counts.new other }
+    ensures kept { (other : List ℕ) → result ≡ FileFail.Memory
+        → count_of counts.new other ≡ count_of counts.old other }
+    ensures not_too_long { (limit : ℕ) → result ≢ FileFail.TooLong limit }
+{
+    match note(counts, alloc, name) {
+        Ok(()) => FileFail::Failed,
+        Err(Memory) => FileFail::Memory,
+    }
+}
+
+impl Files for MemFiles {
+    ghost contents = { λ held. Some (content_of held.files.items) };
+
+    ghost faults = { λ held. count_of held.faults };
+
+    /// Fails where this is a call that is to fail, or where there is no file of this name; that
+    /// is counted for the name. `Memory` comes also where a failure couldn't be counted, and no
+    /// count changes then.
+    fn load(&mut self, alloc: Global, name: &str, limit: usize) -> Result<Vec<u8>, FileFail>
+        ensures ok { IfOk result (λ bytes. load_answer (fails_next self.old.failing.items self.old.calls)
+            (content_of self.old.files.items name.now) limit ≡ Ok bytes.items) }
+        ensures err { (fail : FileFail) → result ≡ Err fail → fail ≢ FileFail.Memory
+            → load_answer (fails_next self.old.failing.items self.old.calls)
+            (content_of self.old.files.items name.now) limit ≡ Err fail }
+        ensures held { self.new ≡ record self.old {
+          calls = one_more self.old.calls;
+          faults = self.new.faults;
+        } }
+        ensures counted { (other : List ℕ) → result ≡ Err FileFail.Failed
+            → count_of self.new.faults other ≡ noted (count_of self.old.faults) name.now other }
+        ensures not_counted { (other : List ℕ) → result ≢ Err FileFail.Failed
+            → count_of self.new.faults other ≡ count_of self.old.faults other }
+        ensures rose { result ≡ Err FileFail.Failed
+            → Rose (count_of self.old.faults name.now) (count_of self.new.faults name.now) }
+        ensures never_falls { (other : List ℕ)
+            → count_of self.old.faults other ≤ count_of self.new.faults other }
+    {
+        self.calls = self.calls.saturating_add(1);
+        let fails = self.failing.contains(&self.calls);
+        match content(self.files.as_slice(), name) {
+            Some(bytes) if !fails => copied(alloc, bytes, limit),
+            _ => Err(failure(&mut self.faults, alloc, name)),
+        }
+    }
+}
+
+// A copy of the bytes, where they are at most `limit`.
+fn copied(alloc: Global, bytes: &[u8], limit: usize) -> Result<Vec<u8>, FileFail>
+    ensures ok { IfOk result (λ copy. (copy.items ≡ bytes.now) × (length bytes.now ≤ limit)) }
+    ensures too_long { (most : ℕ) → result ≡ Err (FileFail.TooLong most) → (most ≡ limit) × (limit < length bytes.now) }
+    ensures not_failed { result ≢ Err FileFail.Failed }
+{
+    if bytes.len() > limit {
+        return Err(FileFail::TooLong { limit });
+    }
+    Vec::from_slice(alloc, bytes).map_err(|_| FileFail::Memory)
+}
