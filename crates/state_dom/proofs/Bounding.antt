@@ -1,5 +1,5 @@
 -- States that bound others.
-use Rattle.std.proofs.Common.{◌≡◌, ℕ, ℤ, Bool, false, List, [], ◌∷◌, ◌++◌, length, arith, refl, sym, ap, inl, inr, bit_and}
+use Rattle.std.proofs.Common.{◌≡◌, ℕ, ℤ, false, List, [], ◌∷◌, ◌++◌, arith, refl, sym, ap, inl, inr, bit_and}
 use Rattle.std.specs.Int.{bit_at}
 use Rattle.std.specs.Prelude.{int_lt}
 use Rattle.std.proofs.lemmas.Bool.{cases_eq}

@@ -1,5 +1,5 @@
 -- One step of a loop that replaces the items of a list in place.
-use Rattle.std.proofs.Common.{◌≡◌, ◌∙◌, ℕ, suc, ◌+◌, ◌<◌, List, [], ◌∷◌, ◌++◌, length, take, drop, set, get_or, add-one, append_assoc, sym, ap, refl, arith, drop-cons, subst}
+use Rattle.std.proofs.Common.{◌≡◌, ◌∙◌, ℕ, suc, ◌+◌, ◌<◌, List, [], ◌∷◌, ◌++◌, length, take, drop, set, get_or, add-one, append_assoc, sym, ap, arith, drop-cons}
 use Rattle.std.proofs.lemmas.List.{take_more, take_more_set, drop-set-lt}
 use Rattle.interval_dom.specs.Bounds.{Bounds, Covers}
 use Rattle.state_dom.specs.StateValue.{CoversEach, on_each}

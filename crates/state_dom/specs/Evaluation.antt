@@ -1,6 +1,6 @@
 -- The interval of an expression in a state. The forms that the analysis doesn't take yet have no
 -- value here.
-use Rattle.std.specs.Prelude.{ℕ, ℤ, Bool, List, Option, Some, None, slice_get, if◌then◌else◌}
+use Rattle.std.specs.Prelude.{List, Option, Some, None, slice_get}
 use Rattle.gob_tree.specs.declared.expr.BinOp.{BinOp}
 use Rattle.gob_tree.specs.declared.expr.BinOp.TheVariants.{Add, Sub, Mul, Div, Rem, Lt, Le, Gt, Ge, Eq, Ne, And, Or}
 use Rattle.gob_tree.specs.declared.expr.Expr.{Expr}

@@ -1,8 +1,8 @@
 -- What contracts see of a state, what it describes, and the order and join of states.
-use Rattle.std.specs.Prelude.{◌≡◌, ℕ, ◌≤ℤ◌, ℤ, pos, List, [], ◌∷◌, Bool, true, false, length, replicate, if◌then◌else◌}
+use Rattle.std.specs.Prelude.{ℕ, ℤ, pos, List, [], ◌∷◌, Bool, true, false, length, replicate}
 use Rattle.interval_dom.specs.Bounds.{Bounds, between, Describes, Covers, hull}
 use Rattle.interval_dom.specs.Marks.{widened}
-use Rattle.lockset_dom.specs.Members.{Holds, Includes, no_locks, shared_members}
+use Rattle.lockset_dom.specs.Members.{Includes, no_locks, shared_members}
 
 -- a point that no run reaches, which keeps the room of its slots; or an interval for each slot,
 -- and the mutexes that are surely held

@@ -1,5 +1,5 @@
 -- The thresholds of a program: where an end of an interval comes to rest once it moves.
-use Rattle.std.specs.Prelude.{ℕ, ℤ, pos, ◌+ℤ◌, ◌-ℤ◌, Bool, true, false, ◌||◌, List, [], ◌∷◌, ◌++◌, filter, map, if◌then◌else◌}
+use Rattle.std.specs.Prelude.{ℤ, pos, ◌+ℤ◌, ◌-ℤ◌, Bool, true, false, ◌||◌, List, [], ◌∷◌, ◌++◌, map, if◌then◌else◌}
 use Rattle.std.specs.List.{list_any, flat_map}
 use Rattle.gob_tree.specs.Widths.{fits, lowest, greatest}
 use Rattle.gob_tree.specs.declared.expr.Expr.{Expr}

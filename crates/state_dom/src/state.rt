@@ -145,7 +145,11 @@ impl State {
             return false;
         }
         if self.reached {
-            widen_each(self.slots.as_mut_slice(), new.slots.as_slice(), marks.as_slice());
+            widen_each(
+                self.slots.as_mut_slice(),
+                new.slots.as_slice(),
+                marks.as_slice(),
+            );
             self.locks = self.locks.meet(new.locks);
         } else {
             self.become_reached(new);
@@ -166,7 +170,9 @@ impl State {
         requires reached { is_reached other.now ≡ true }
         ensures { self.new ≡ other.now }
     {
-        self.slots.as_mut_slice().copy_from_slice(other.slots.as_slice());
+        self.slots
+            .as_mut_slice()
+            .copy_from_slice(other.slots.as_slice());
         self.locks = other.locks;
         self.reached = true;
     }
