@@ -6,7 +6,7 @@ ghost use Rattle.gob_outside.specs.Faults.{count_of, noted};
 ghost use Rattle.gob_outside.specs.MemSink.{fails_next};
 ghost use Rattle.gob_outside.specs.MemFiles.{content_of, load_answer};
 
-use crate::faults::{FaultCounts, note};
+use crate::faults::{FaultCounts, failure};
 use crate::files::{FileFail, Files};
 use gob_tree::{Memory, Text};
 use std::alloc::Global;
@@ -54,23 +54,6 @@ fn content<'a>(files: &'a [(Text, Vec<u8>)], name: &str) -> Option<&'a [u8]>
         }
     }
     None
-}
-
-// Why a load failed: `Failed` where that could be noted.
-fn failure(counts: &mut FaultCounts, alloc: Global, name: &str) -> FileFail
-    ensures failed { (other : List ℕ) → result ≡ FileFail.Failed → count_of counts.new other
-        ≡ noted (count_of counts.old) name.now other }
-    ensures rose { result ≡ FileFail.Failed
-        → Rose (count_of counts.old name.now) (count_of counts.new name.now) }
-    ensures never_falls { (other : List ℕ) → count_of counts.old other ≤ count_of counts.new other }
-    ensures kept { (other : List ℕ) → result ≡ FileFail.Memory
-        → count_of counts.new other ≡ count_of counts.old other }
-    ensures not_too_long { (limit : ℕ) → result ≢ FileFail.TooLong limit }
-{
-    match note(counts, alloc, name) {
-        Ok(()) => FileFail::Failed,
-        Err(Memory) => FileFail::Memory,
-    }
 }
 
 impl Files for MemFiles {
