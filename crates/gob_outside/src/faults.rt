@@ -43,7 +43,8 @@ fn note(counts: &mut FaultCounts, alloc: Global, name: &str) -> Result<(), Memor
     Ok(())
 }
 
-fn count_so_far(counts: &FaultCounts, name: &str) -> u64
+// How many loads of a name failed so far.
+pub(crate) fn count_so_far(counts: &FaultCounts, name: &str) -> u64
     ensures { result ≡ count_of counts.now name.now }
 {
     counts.get(name).copied().unwrap_or(0)

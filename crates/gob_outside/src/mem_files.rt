@@ -103,3 +103,34 @@ fn copied(alloc: Global, bytes: &[u8], limit: usize) -> Result<Vec<u8>, FileFail
     }
     Vec::from_slice(alloc, bytes).map_err(|_| FileFail::Memory)
 }
+
+#[cfg(test)]
+mod tests {
+    use super::*;
+    use crate::faults::count_so_far;
+
+    fn three_files(alloc: Global) -> Result<Vec<(Text, Vec<u8>)>, Memory> {
+        let mut files = Vec::new(alloc);
+        files.push((Text::of(alloc, b"a.c")?, Vec::from_slice(alloc, b"one")?))?;
+        files.push((Text::of(alloc, b"a.c")?, Vec::from_slice(alloc, b"two")?))?;
+        files.push((Text::of(alloc, b"b.c")?, Vec::from_slice(alloc, b"three")?))?;
+        Ok(files)
+    }
+
+    #[test]
+    fn loads_by_name(rt: HostRuntime) -> Result<(), Memory> {
+        let failing = vec![in rt.alloc(); 3]?;
+        let mut files = MemFiles::new(rt.alloc(), three_files(rt.alloc())?, failing)?;
+        let first = files.load(rt.alloc(), "a.c", 3);
+        assert!(rt; first.is_ok_and(|bytes| bytes.as_slice() == b"one".as_slice()));
+        let long = files.load(rt.alloc(), "b.c", 4);
+        assert!(rt; long.is_err_and(|fail| fail == FileFail::TooLong { limit: 4 }));
+        for name in ["b.c", "c.c"] {
+            let failed = files.load(rt.alloc(), name, 9);
+            assert!(rt; failed.is_err_and(|fail| fail == FileFail::Failed));
+            assert_eq!(rt; count_so_far(&files.faults, name), 1);
+        }
+        assert_eq!(rt; count_so_far(&files.faults, "a.c"), 0);
+        Ok(())
+    }
+}

@@ -71,10 +71,8 @@ fn read_up_to<F: Read + Drop>(from: F, alloc: Global, limit: usize) -> Result<Ve
         → IfSome (F.remaining from) (λ left. limit < length left) }
 {
     let mut bytes = Vec::new(alloc);
-    match from
-        .take((limit as u64).saturating_add(1))
-        .read_to_end(&mut bytes)
-    {
+    let most = (limit as u64).saturating_add(1);
+    match from.take(most).read_to_end(&mut bytes) {
         Ok(count) if count > limit => Err(FileFail::TooLong { limit }),
         Ok(_) => Ok(bytes),
         Err(error) => Err(cause_of(&error)),
@@ -89,5 +87,26 @@ fn cause_of(error: &io::Error) -> FileFail
         FileFail::Memory
     } else {
         FileFail::Failed
+    }
+}
+
+#[cfg(test)]
+mod tests {
+    use super::*;
+    use crate::faults::count_so_far;
+
+    #[test]
+    fn loads_files_of_the_system(rt: HostRuntime) {
+        let mut files = StdFiles::new(rt.alloc(), &rt);
+        let empty = files.load(rt.alloc(), "/dev/null", 0);
+        assert!(rt; empty.is_ok_and(|bytes| bytes.is_empty()));
+        let endless = files.load(rt.alloc(), "/dev/zero", 65536);
+        assert!(rt; endless.is_err_and(|fail| fail == FileFail::TooLong { limit: 65536 }));
+        for name in ["/dev", "no such file"] {
+            let failed = files.load(rt.alloc(), name, 9);
+            assert!(rt; failed.is_err_and(|fail| fail == FileFail::Failed));
+            assert_eq!(rt; count_so_far(&files.faults, name), 1);
+        }
+        assert_eq!(rt; count_so_far(&files.faults, "/dev/zero"), 0);
     }
 }

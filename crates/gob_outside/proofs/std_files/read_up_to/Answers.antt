@@ -12,6 +12,6 @@ returns-in-Ok-2-clause-all g c =
     let read = c.in-Ok.ensures.ok in
     let none_before = c.new-bytes.ensures.len in
     let limit_is = c.take.ensures.limit in
-    let saturated = c.saturating_add.ensures in
+    let saturated = c.saturating_add-most.ensures in
     let few : length c.read_to_end.new.buf.items < c.take.result.limit = omega arith in
     rw (sym c.take.ensures.inner) (few_are_all _ c.take.result.limit c.read_to_end.new.buf.items (rw c.new-bytes.ensures.items at c.in-Ok-2.ensures.bytes) few)
