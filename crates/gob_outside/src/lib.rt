@@ -9,6 +9,8 @@ mod files;
 mod mem_files;
 mod mem_sink;
 mod sink;
+mod std_files;
+mod std_out;
 mod write;
 
 pub use failed::Failed;
@@ -16,4 +18,6 @@ pub use files::{FileFail, Files};
 pub use mem_files::MemFiles;
 pub use mem_sink::MemSink;
 pub use sink::Sink;
+pub use std_files::StdFiles;
+pub use std_out::StdOut;
 pub use write::{Short, write_all};

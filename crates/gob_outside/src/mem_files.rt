@@ -6,7 +6,7 @@ ghost use Rattle.gob_outside.specs.Faults.{count_of, noted};
 ghost use Rattle.gob_outside.specs.MemSink.{fails_next};
 ghost use Rattle.gob_outside.specs.MemFiles.{content_of, load_answer};
 
-use crate::faults::{FaultCounts, note};
+use crate::faults::{FaultCounts, failure};
 use crate::files::{FileFail, Files};
 use gob_tree::{Memory, Text};
 use std::alloc::Global;
@@ -56,23 +56,6 @@ fn content<'a>(files: &'a [(Text, Vec<u8>)], name: &str) -> Option<&'a [u8]>
     None
 }
 
-// Why a load failed: `Failed` where that could be noted.
-fn failure(counts: &mut FaultCounts, alloc: Global, name: &str) -> FileFail
-    ensures failed { (other : List ℕ) → result ≡ FileFail.Failed → count_of counts.new other
-        ≡ noted (count_of counts.old) name.now other }
-    ensures rose { result ≡ FileFail.Failed
-        → Rose (count_of counts.old name.now) (count_of counts.new name.now) }
-    ensures never_falls { (other : List ℕ) → count_of counts.old other ≤ count_of counts.new other }
-    ensures kept { (other : List ℕ) → result ≡ FileFail.Memory
-        → count_of counts.new other ≡ count_of counts.old other }
-    ensures not_too_long { (limit : ℕ) → result ≢ FileFail.TooLong limit }
-{
-    match note(counts, alloc, name) {
-        Ok(()) => FileFail::Failed,
-        Err(Memory) => FileFail::Memory,
-    }
-}
-
 impl Files for MemFiles {
     ghost contents = { λ held. Some (content_of held.files.items) };
 
@@ -119,4 +102,35 @@ fn copied(alloc: Global, bytes: &[u8], limit: usize) -> Result<Vec<u8>, FileFail
         return Err(FileFail::TooLong { limit });
     }
     Vec::from_slice(alloc, bytes).map_err(|_| FileFail::Memory)
+}
+
+#[cfg(test)]
+mod tests {
+    use super::*;
+    use crate::faults::count_so_far;
+
+    fn three_files(alloc: Global) -> Result<Vec<(Text, Vec<u8>)>, Memory> {
+        let mut files = Vec::new(alloc);
+        files.push((Text::of(alloc, b"a.c")?, Vec::from_slice(alloc, b"one")?))?;
+        files.push((Text::of(alloc, b"a.c")?, Vec::from_slice(alloc, b"two")?))?;
+        files.push((Text::of(alloc, b"b.c")?, Vec::from_slice(alloc, b"three")?))?;
+        Ok(files)
+    }
+
+    #[test]
+    fn loads_by_name(rt: HostRuntime) -> Result<(), Memory> {
+        let failing = vec![in rt.alloc(); 3]?;
+        let mut files = MemFiles::new(rt.alloc(), three_files(rt.alloc())?, failing)?;
+        let first = files.load(rt.alloc(), "a.c", 3);
+        assert!(rt; first.is_ok_and(|bytes| bytes.as_slice() == b"one".as_slice()));
+        let long = files.load(rt.alloc(), "b.c", 4);
+        assert!(rt; long.is_err_and(|fail| fail == FileFail::TooLong { limit: 4 }));
+        for name in ["b.c", "c.c"] {
+            let failed = files.load(rt.alloc(), name, 9);
+            assert!(rt; failed.is_err_and(|fail| fail == FileFail::Failed));
+            assert_eq!(rt; count_so_far(&files.faults, name), 1);
+        }
+        assert_eq!(rt; count_so_far(&files.faults, "a.c"), 0);
+        Ok(())
+    }
 }

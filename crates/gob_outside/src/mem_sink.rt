@@ -140,3 +140,36 @@ impl Sink for MemSink {
 
     ghost write_goes_on = { λ _ _ _ _ _. tt };
 }
+
+#[cfg(test)]
+mod tests {
+    use super::*;
+    use crate::write::{Short, write_all};
+
+    #[test]
+    fn writes_in_pieces(rt: HostRuntime) -> Result<(), Memory> {
+        let failing = vec![in rt.alloc(); 2]?;
+        let mut sink = MemSink::new(rt.alloc(), 5, 2, failing)?;
+        assert_eq!(rt; sink.write(b"abc"), Ok(2));
+        assert_eq!(rt; sink.write(b"c"), Err(Failed));
+        assert_eq!(rt; sink.write(b"c"), Ok(1));
+        assert_eq!(rt; sink.write(b""), Ok(0));
+        assert_eq!(rt; sink.flush(), Ok(()));
+        assert_eq!(rt; write_all(&mut sink, b"defg"), Err(Short { sent: 2 }));
+        assert_eq!(rt; sink.written(), b"abcde".as_slice());
+        assert_eq!(rt; sink.faults, 2);
+        Ok(())
+    }
+
+    #[test]
+    fn each_write_failing(rt: HostRuntime) -> Result<(), Memory> {
+        for (call, sent) in [(1, 0), (2, 2), (3, 4)] {
+            let failing = vec![in rt.alloc(); call]?;
+            let mut sink = MemSink::new(rt.alloc(), 9, 2, failing)?;
+            assert_eq!(rt; write_all(&mut sink, b"hello"), Err(Short { sent }));
+            assert_eq!(rt; sink.written().len(), sent);
+            assert_eq!(rt; write_all(&mut sink, b"lo"), Ok(()));
+        }
+        Ok(())
+    }
+}
