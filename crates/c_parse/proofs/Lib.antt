@@ -1,0 +1,2 @@
+pub mod LoneLists
+pub mod LoneNumbers
