@@ -2,8 +2,12 @@
 //! gets from its edges, and the turns that solve it.
 #![tactic(auto)]
 
+mod dirty;
+mod table;
 mod unknown;
 mod value;
 
+pub use dirty::Dirty;
+pub use table::Table;
 pub use unknown::{ArgKey, Key, Unknown};
 pub use value::{Contribution, Effect, Value};

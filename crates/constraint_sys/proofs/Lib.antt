@@ -1,0 +1,3 @@
+pub mod Copied
+pub mod Ordered
+pub mod Same
