@@ -3,6 +3,7 @@ pub mod Entries
 pub mod Locality
 pub mod Ordered
 pub mod Quiet
+pub mod Rooms
 pub mod Same
 pub mod Shaping
 pub mod SoundTurns

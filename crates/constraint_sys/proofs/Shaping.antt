@@ -135,7 +135,7 @@ pub transfer-shaped : (p : Program) (t : TableValue) (f : ℕ) (key : Key) (act 
 transfer-shaped p t f key act (Bottom room) shaped = shaped
 transfer-shaped p t f key act (Reached state locks) shaped = outcome_in-shaped (slots_at p f) state locks act shaped
 
-joined-shaped : (p : Program) (t : TableValue) (f : ℕ) (key : Key) (es : List Edge) → IsShaped p t → HasShape (slots_at p f) (joined p t f key es)
+pub joined-shaped : (p : Program) (t : TableValue) (f : ℕ) (key : Key) (es : List Edge) → IsShaped p t → HasShape (slots_at p f) (joined p t f key es)
 joined-shaped p t f key [] shaped = refl
 joined-shaped p t f key (e ∷ es) shaped =
     HasShape-join (slots_at p f) (outcome_of p t f key e).value (joined p t f key es)

@@ -38,6 +38,14 @@ impl Dirty {
         }
     }
 
+    /// The set of these points, which ascend.
+    pub(crate) fn of_ascending(points: Vec<Unknown>) -> Dirty
+        requires { IsSorted unknown_cmp points.items }
+        ensures { result ≡ points.items }
+    {
+        Dirty { points }
+    }
+
     /// Whether there is no member.
     pub fn is_empty(&self) -> bool
         ensures { IsTrue result ↔ (self.now ≡ []) }

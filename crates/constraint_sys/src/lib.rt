@@ -2,12 +2,18 @@
 //! gets from its edges, and the turns that solve it.
 #![tactic(auto)]
 
+mod edges;
 mod dirty;
+mod start;
 mod table;
+mod turns;
 mod unknown;
 mod value;
 
+pub use edges::contribution;
 pub use dirty::Dirty;
+pub use start::initial;
 pub use table::Table;
+pub use turns::turn;
 pub use unknown::{ArgKey, Key, Unknown};
 pub use value::{Contribution, Effect, Value};
