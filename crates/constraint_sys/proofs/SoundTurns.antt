@@ -21,7 +21,7 @@ use Rattle.constraint_sys.specs.PostSolution.{CoversValue, BoundsAt, HasRoots, I
 use Rattle.constraint_sys.specs.Sound.{HasShape, IsShaped, IsShapedEntry, CanTurn, IsSound}
 use Rattle.constraint_sys.specs.Table.{TableValue, value_at, with_value, IsThere, main_start, shown, slots_at, nodes_at}
 use Rattle.constraint_sys.specs.Turn.{Solving, Turns, IsDirtyAfter, IsBrought, ReadsRisen, Rose, table_after, raised_in, raised_in_each, raised_entry}
-use Rattle.constraint_sys.proofs.Entries.{value_at-set, value_at-other, cases_unknown}
+use Rattle.constraint_sys.proofs.Entries.{global_apart, value_at-set, value_at-other, cases_unknown}
 use Rattle.constraint_sys.proofs.Locality.{ShowsSame, contribution-local, IsSatisfied-from_value}
 use Rattle.constraint_sys.proofs.Quiet.{no_effects}
 use Rattle.constraint_sys.proofs.Shaping.{HasAllEnds-thresholds, HasShape-raised, CoversState-raised, contribution-shaped, length-fitted}
@@ -121,7 +121,7 @@ there_from (Some v) some = refl
 some_from : (o : Option Value) → IsSome o → o ≢ None
 some_from o there none = true≢false (sym there ∙ ap is_some none)
 
-nothing_in : {X : Type 0} (x : X) → Contains [] x → ⊥
+pub nothing_in : {X : Type 0} (x : X) → Contains [] x → ⊥
 nothing_in x (k, within, at) = omega arith
 
 -- the points that are dirty after a turn are there
@@ -149,9 +149,6 @@ value_due p t (Global g) = Bottom 0
 
 main_apart : (p : Program) (f : ℕ) (key : Key) (n : ℕ) → main_start p ≢ Point f key (suc n)
 main_apart p f key n same = cc
-
-global_apart : (g f : ℕ) (key : Key) (n : ℕ) → Global g ≢ Point f key (suc n)
-global_apart g f key n same = cc
 
 -- the turn of a point, whose state was a
 module _ (p : Program) (built : HasBuiltActions p) (old new : Solving) (sound : IsSound p old) (f : ℕ) (key : Key) (n : ℕ) (turn : Turns p old (Point f key (suc n)) new) (a : StateValue) (at : value_at old.table (Point f key (suc n)) ≡ Some (State a)) where
@@ -216,7 +213,7 @@ module _ (p : Program) (built : HasBuiltActions p) (old new : Solving) (sound : 
 
   pub IsSound-raised : IsSound p new
   IsSound-raised = record {
-    roots = HasRoots-kept old.table new.table u a raised changes p (main_apart p f key n) (λ g. global_apart g f key n) sound.roots;
+    roots = HasRoots-kept old.table new.table u a raised changes p (main_apart p f key n) (λ g. global_apart g f key (suc n)) sound.roots;
     shaped = IsShaped-kept old.table new.table u a raised changes p (old_shaped.0, HasShape-raised (thresholds_of p) (HasAllEnds-thresholds p) (slots_at p f) a due old_shaped.1 due_shaped) sound.shaped;
     dirty_points = can_turn;
     satisfied = satisfied;
