@@ -2,8 +2,12 @@
 //! gets from its edges, and the turns that solve it.
 #![tactic(auto)]
 
+mod law;
 mod unknown;
 mod value;
 
+pub use law::{
+    clean_is_post_solution, initial_is_sound, replays_are_sound, replays_go_on, turns_keep_sound,
+};
 pub use unknown::{ArgKey, Key, Unknown};
 pub use value::{Contribution, Effect, Value};
