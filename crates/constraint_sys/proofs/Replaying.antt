@@ -1,5 +1,5 @@
 -- What a replay keeps, and how it goes on.
-use Rattle.std.proofs.Common.{◌≡◌, ◌≢◌, ℕ, List, [], ◌∷◌, ◌++◌, refl, sym, subst, arith}
+use Rattle.std.proofs.Common.{◌≡◌, List, [], ◌∷◌, ◌++◌, refl, sym, subst}
 use Rattle.std.specs.Prelude.{Contains}
 use Rattle.gob_tree.specs.Built.{HasBuiltActions}
 use Rattle.gob_tree.specs.declared.graph.Program.{Program}

@@ -1,6 +1,6 @@
 -- The initial table is sound.
 use Rattle.std.proofs.Common.{◌≡◌, ◌≢◌, true, ℕ, zero, suc, ◌+◌, ◌-◌, ◌<◌, ◌≤◌, ℤ, pos, ◌≤ℤ◌, List, [], ◌∷◌, ◌++◌, Option, None, Some, refl, sym, ap, ◌∙◌, arith, subst, inl, inr, is_some, true≢false}
-use Rattle.std.specs.Prelude.{All, Contains, IsSome, IsSomeAnd, IsTrue, length, map, replicate, slice_get, int_le}
+use Rattle.std.specs.Prelude.{All, Contains, IsSomeAnd, IsTrue, length, map, replicate, slice_get, int_le}
 use Rattle.std.proofs.lemmas.Bool.{and_parts, cases_eq}
 use Rattle.std.proofs.lemmas.Int.{ints}
 use Rattle.std.proofs.lemmas.List.Elements.{All-nil, All-cons, All-contains, All-get_or, Contains-append_right}
@@ -13,22 +13,22 @@ use Rattle.gob_tree.specs.declared.graph.FuncGraph.{FuncGraph}
 use Rattle.gob_tree.specs.declared.graph.Program.{Program}
 use Rattle.gob_tree.specs.declared.unit.GlobalDecl.{GlobalDecl}
 use Rattle.gob_tree.specs.declared.unit.Slot.{Slot}
-use Rattle.interval_dom.specs.Bounds.{Bounds, between, Covers}
+use Rattle.interval_dom.specs.Bounds.{between, Covers}
 use Rattle.interval_dom.specs.Ranges.{full}
 use Rattle.interval_dom.proofs.Within.{Covers-refl}
 use Rattle.state_dom.specs.Evaluation.{interval_width_of}
-use Rattle.state_dom.specs.StateValue.{StateValue, Bottom, start_of}
+use Rattle.state_dom.specs.StateValue.{Bottom, start_of}
 use Rattle.state_dom.proofs.Bounding.{CoversState-refl}
 use Rattle.constraint_sys.specs.declared.unknown.Key.{Key}
 use Rattle.constraint_sys.specs.declared.unknown.Unknown.{Unknown}
 use Rattle.constraint_sys.specs.declared.unknown.Unknown.TheVariants.{Point, Global}
 use Rattle.constraint_sys.specs.declared.value.Value.{Value}
-use Rattle.constraint_sys.specs.declared.value.Value.TheVariants.{State, Number}
-use Rattle.constraint_sys.specs.PostSolution.{CoversValue, BoundsAt, HasRoots, IsSatisfied, main_start_value, initial_value}
-use Rattle.constraint_sys.specs.Sound.{FitsEach, HasShape, IsShaped, IsShapedEntry, CanTurn, IsSound}
+use Rattle.constraint_sys.specs.declared.value.Value.TheVariants.{State}
+use Rattle.constraint_sys.specs.PostSolution.{CoversValue, HasRoots, main_start_value, initial_value}
+use Rattle.constraint_sys.specs.Sound.{FitsEach, IsShaped, IsShapedEntry, CanTurn, IsSound}
 use Rattle.constraint_sys.specs.Table.{TableValue, value_at, IsThere, main_start, empty_key, slots_at, nodes_at, nodes_of_function}
 use Rattle.constraint_sys.specs.Turn.{numbers_from, bottom_nodes, initial_globals, initial_table, initial_dirty, initial_of}
-use Rattle.constraint_sys.proofs.Entries.{global_apart, AllEntries, AllEntries-append, value_at-all, value_at-head, value_at-past, IsThere-cons, IsThere-append_left, IsThere-append_right, there_value}
+use Rattle.constraint_sys.proofs.Entries.{global_apart, AllEntries, AllEntries-append, value_at-all, value_at-head, value_at-past, IsThere-cons, IsThere-append_left, there_value}
 
 -- what holds of each number from the first on holds of all entries, or of all unknowns
 AllEntries-numbers : (P : Unknown → Value → Type 0) (entry : ℕ → Unknown × Value) (first count : ℕ) → ((i : ℕ) → first ≤ i → i < first + count → P (entry i).0 (entry i).1) → AllEntries P (map entry (numbers_from first count))
@@ -140,8 +140,8 @@ module _ (p : Program) (formed : IsFormed p) where
   AllEntries-initial P start inner each = (
     start,
     AllEntries-append P nodes globals
-    (AllEntries-numbers P (λ (node : ℕ). (Point p.main empty_key node, State (Bottom (length (slots_at p p.main))))) 1 (length (nodes_at p p.main) - 1) (λ i low high. inner i (omega arith) (omega arith)))
-    (AllEntries-globals P 0 p.globals (λ k decl at. subst (λ (n : ℕ). P (Global n) (initial_value decl)) (omega arith) (each k decl at))),
+        (AllEntries-numbers P (λ (node : ℕ). (Point p.main empty_key node, State (Bottom (length (slots_at p p.main))))) 1 (length (nodes_at p p.main) - 1) (λ i low high. inner i (omega arith) (omega arith)))
+        (AllEntries-globals P 0 p.globals (λ k decl at. subst (λ (n : ℕ). P (Global n) (initial_value decl)) (omega arith) (each k decl at))),
   )
 
   -- a point of the table is a node of main with the empty key

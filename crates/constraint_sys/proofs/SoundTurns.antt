@@ -1,10 +1,8 @@
 -- A turn keeps a table sound.
-use Rattle.std.proofs.Common.{◌≡◌, ◌≢◌, ℕ, zero, suc, ◌<◌, ◌⊎◌, ℤ, List, [], ◌∷◌, Option, None, Some, refl, sym, ap, ◌∙◌, arith, subst, inl, inr, is_some, true≢false}
-use Rattle.std.specs.Prelude.{Contains, IsSome, length, slice_get}
+use Rattle.std.proofs.Common.{◌≡◌, ◌≢◌, ℕ, zero, suc, ◌⊎◌, ℤ, List, [], Option, None, Some, refl, sym, ap, ◌∙◌, arith, subst, inl, inr, is_some, true≢false}
+use Rattle.std.specs.Prelude.{Contains, IsSome, length}
 use Rattle.gob_tree.specs.Built.{HasBuiltActions}
-use Rattle.gob_tree.specs.Formed.{IsFormed}
 use Rattle.gob_tree.specs.declared.graph.Program.{Program}
-use Rattle.gob_tree.specs.declared.unit.GlobalDecl.{GlobalDecl}
 use Rattle.gob_tree.specs.declared.unit.Slot.{Slot}
 use Rattle.state_dom.specs.StateValue.{StateValue, Bottom, Reached, room_of, CoversState, raised_by}
 use Rattle.state_dom.specs.ThresholdValues.{thresholds_of}
@@ -19,8 +17,8 @@ use Rattle.constraint_sys.specs.declared.value.Value.TheVariants.{State, Number}
 use Rattle.constraint_sys.specs.Contribution.{contribution_of, read_by}
 use Rattle.constraint_sys.specs.PostSolution.{CoversValue, BoundsAt, HasRoots, IsSatisfied, main_start_value, initial_value}
 use Rattle.constraint_sys.specs.Sound.{HasShape, IsShaped, IsShapedEntry, CanTurn, IsSound}
-use Rattle.constraint_sys.specs.Table.{TableValue, value_at, with_value, IsThere, main_start, shown, slots_at, nodes_at}
-use Rattle.constraint_sys.specs.Turn.{Solving, Turns, IsDirtyAfter, IsBrought, ReadsRisen, Rose, table_after, raised_in, raised_in_each, raised_entry}
+use Rattle.constraint_sys.specs.Table.{TableValue, value_at, with_value, IsThere, main_start, shown, slots_at}
+use Rattle.constraint_sys.specs.Turn.{Solving, Turns, IsBrought, ReadsRisen, Rose, table_after, raised_in, raised_in_each, raised_entry}
 use Rattle.constraint_sys.proofs.Entries.{global_apart, value_at-set, value_at-other, cases_unknown}
 use Rattle.constraint_sys.proofs.Locality.{ShowsSame, contribution-local, IsSatisfied-from_value}
 use Rattle.constraint_sys.proofs.Quiet.{no_effects}
