@@ -8,7 +8,8 @@ use Rattle.constraint_sys.specs.declared.unknown.Unknown.TheVariants.{Point}
 use Rattle.constraint_sys.specs.PostSolution.{IsPostSolution}
 use Rattle.constraint_sys.specs.Sound.{IsSound}
 use Rattle.constraint_sys.specs.Turn.{Solving, Turns, Replays}
-use Rattle.constraint_sys.proofs.SoundTurns.{IsSound-turned, nothing_in}
+use Rattle.constraint_sys.proofs.Rising.{nothing_in}
+use Rattle.constraint_sys.proofs.SoundTurns.{IsSound-turned}
 
 -- a replay goes on by one turn
 pub Replays-push : (p : Program) (old : Solving) (trace : List Unknown) (mid : Solving) (u : Unknown) (new : Solving) → Replays p old trace mid → Turns p mid u new → Replays p old (trace ++ u ∷ []) new

@@ -18,7 +18,7 @@ use Rattle.interval_dom.specs.declared.width.Width.TheVariants.{W32, W64}
 use Rattle.interval_dom.proofs.Within.{HasEnds, Covers-wide, fitted-within, hull-within, widened-within, widened-bounds}
 use Rattle.lockset_dom.proofs.Membership.{Holds-shared_members}
 use Rattle.state_dom.specs.Evaluation.{valued, converted_to, interval_width_of, width_at}
-use Rattle.state_dom.specs.StateValue.{StateValue, Bottom, Reached, CoversEach, CoversState, on_each, join_of, raised_by}
+use Rattle.state_dom.specs.StateValue.{StateValue, Bottom, Reached, room_of, CoversEach, CoversState, on_each, join_of, raised_by}
 use Rattle.state_dom.specs.ThresholdValues.{thresholds_of, neighbours, numbers_of_program, widest, has_wide, ends_of_type}
 use Rattle.state_dom.proofs.Bounding.{CoversState-refl}
 use Rattle.constraint_sys.specs.declared.unknown.Key.{Key}
@@ -35,6 +35,11 @@ length-fitted [] [] each = refl
 length-fitted [] (x ∷ xs) each = absurd each
 length-fitted (slot ∷ slots) [] each = absurd each
 length-fitted (slot ∷ slots) (x ∷ xs) each = ap suc (length-fitted slots xs each.1)
+
+-- a shaped state has room for the slots
+pub room_of-shaped : (slots : List Slot) (s : StateValue) → HasShape slots s → room_of s ≡ length slots
+room_of-shaped slots (Bottom room) shaped = shaped
+room_of-shaped slots (Reached xs locks) shaped = length-fitted slots xs shaped
 
 -- an interval that fits its slot may be set there
 pub FitsEach-set : (slots : List Slot) (xs : List Bounds) (i : ℕ) (v : Bounds) → FitsEach slots xs → Covers (full (interval_width_of (width_at (slice_get slots i)))) v → FitsEach slots (slice_set xs i v)
