@@ -4,7 +4,7 @@ use Rattle.std.proofs.Math.Seq.{drop-cons}
 use Rattle.std.proofs.lemmas.List.{take_all, take-append-drop}
 use Rattle.std.specs.List.{list_any, prefix_len}
 use Rattle.c_parse.specs.declared.lone.token.Token.{Token}
-use Rattle.c_parse.specs.LoneTree.{parts, is_semicolon}
+use Rattle.c_parse.specs.LoneReading.{parts, is_semicolon}
 use Rattle.c_parse.specs.LoneTokens.{◌>>=◌, pieces, with_byte, is_blank_piece, token_of, tokens_at, after}
 use Rattle.c_parse.specs.declared.lone.token.TokenKind.{TokenKind}
 use Rattle.gob_tree.specs.declared.place.Place.{Place}
@@ -24,7 +24,7 @@ pub front_empty : {A : Type 0} (read : Option (List A)) → with_front [] read �
 front_empty None = refl
 front_empty (Some more) = refl
 
-neither : (a b : Bool) → (a || b) ≡ false → (a ≡ false) × (b ≡ false)
+pub neither : (a b : Bool) → (a || b) ≡ false → (a ≡ false) × (b ≡ false)
 neither true b h = cc
 neither false b h = (refl, h)
 

@@ -1,6 +1,5 @@
--- The conditions on a `main` that stands alone, and its graph.
-use Rattle.std.specs.Prelude.{ℕ, ◌+◌, pos, Bool, true, not, ◌&&◌, nat_le, if◌then◌else◌, List, [], ◌∷◌, ◌++◌, length, map, codes, Some, None}
-use Rattle.std.specs.List.{list_all}
+-- The graph of a `main` that stands alone.
+use Rattle.std.specs.Prelude.{ℕ, ◌+◌, pos, if◌then◌else◌, List, [], ◌∷◌, map, codes, Some, None}
 use Rattle.std.specs.Str.{bytes_eq}
 use Rattle.gob_tree.specs.declared.expr.BinOp.TheVariants.{Add}
 use Rattle.gob_tree.specs.declared.expr.Expr.{Expr}
@@ -20,56 +19,7 @@ use Rattle.c_parse.specs.declared.lone.tree.Act.{Act}
 use Rattle.c_parse.specs.declared.lone.tree.Act.TheVariants.{Declare, Assign, Return}
 use Rattle.c_parse.specs.declared.lone.tree.Statement.{Statement}
 use Rattle.c_parse.specs.declared.lone.tree.LoneMain.{LoneMain}
-use Rattle.c_parse.specs.Words.{is_one_of}
-
-abbrev pub declared_by : Act → List (List ℕ)
-declared_by (Declare x initial) = x ∷ []
-declared_by (Assign x sum) = []
-declared_by (Return sum) = []
-
--- the declared names in order
-abbrev pub names_of : List Statement → List (List ℕ)
-names_of [] = []
-names_of (s ∷ ss) = declared_by s.act ++ names_of ss
-
--- at most 64 `+`
-abbrev pub is_short : Sum → Bool
-is_short sum = nat_le (length sum.more) 64
-
-abbrev pub has_short_sums : Act → Bool
-has_short_sums (Declare x None) = true
-has_short_sums (Declare x (Some sum)) = is_short sum
-has_short_sums (Assign x sum) = is_short sum
-has_short_sums (Return sum) = is_short sum
-
--- at most 4,094 statements, 127 declarations, and 64 `+` in one sum
-abbrev pub is_within_limits : LoneMain → Bool
-is_within_limits tree =
-    nat_le (length tree.statements) 4094 && (nat_le (length (names_of tree.statements)) 127
-    && list_all (λ s. has_short_sums s.act) tree.statements)
-
-abbrev pub is_known : List (List ℕ) → Term → Bool
-is_known names (Number n) = true
-is_known names (Name x) = is_one_of names x
-
-abbrev pub has_known_names : List (List ℕ) → Sum → Bool
-has_known_names names sum = is_known names sum.first && list_all (is_known names) sum.more
-
--- after the declarations of some names: each name that is used is declared, none is declared again;
--- a declared name is known to its own initial value
-abbrev pub fits_names : List (List ℕ) → Act → Bool
-fits_names names (Declare x None) = not (is_one_of names x)
-fits_names names (Declare x (Some sum)) = not (is_one_of names x) && has_known_names (names ++ x ∷ []) sum
-fits_names names (Assign x sum) = is_one_of names x && has_known_names names sum
-fits_names names (Return sum) = has_known_names names sum
-
--- the same of each statement in order
-abbrev pub are_declared : List (List ℕ) → List Statement → Bool
-are_declared names [] = true
-are_declared names (s ∷ ss) = fits_names names s.act && are_declared (names ++ declared_by s.act) ss
-
-abbrev pub meets_conditions : LoneMain → Bool
-meets_conditions tree = is_within_limits tree && are_declared [] tree.statements
+use Rattle.c_parse.specs.LoneForm.{names_of}
 
 -- the slot of a local: slot 0 is the returned value, then come the locals in order
 abbrev pub slot_of : List (List ℕ) → List ℕ → ℕ

@@ -4,7 +4,7 @@
 
 mod lone;
 
-pub use lone::{LoneFault, lone_main};
+pub use lone::{LoneFault, lone_main, one_program};
 
 #[cfg(test)]
 mod tests;

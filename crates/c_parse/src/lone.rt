@@ -1,4 +1,9 @@
-ghost use Rattle.c_parse.specs.LoneProgram.{program_in, Gives};
+ghost use Rattle.std.specs.Prelude.{◌≡◌, ℕ, List, IfOk, IsErrOf};
+ghost use Rattle.gob_tree.specs.Built.{HasBuiltActions};
+ghost use Rattle.gob_tree.specs.Formed.{IsFormed};
+ghost use Rattle.gob_tree.specs.declared.graph.Program.{Program};
+ghost use Rattle.c_parse.specs.LoneProgram.{IsLoneProgram};
+ghost use Rattle.c_parse.specs.LoneReading.{Gives, program_in};
 
 mod build;
 mod fault;
@@ -15,6 +20,22 @@ use std::alloc::Global;
 
 /// The longest text that is taken, in bytes.
 const MAX_TEXT: usize = 65_536;
+
+fn read_program(alloc: Global, text: &[u8]) -> Result<Program, LoneFault>
+    ensures { Gives result (program_in text.now) }
+{
+    if text.len() > MAX_TEXT {
+        return Err(LoneFault::NotBuilt);
+    }
+    let tokens = scanner::tokens_of(alloc, text)?;
+    let tree = parser::tree_of(alloc, tokens.as_slice())?;
+    if !names::is_within_limits(&tree) {
+        return Err(LoneFault::NotBuilt);
+    }
+    let names = names::declared_names(alloc, tree.statements.as_slice())?;
+    let program = build::program_of(alloc, &tree, names.as_slice())?;
+    Ok(program)
+}
 
 /// The program of a text whose one function is `main`, in the form
 ///
@@ -34,17 +55,15 @@ const MAX_TEXT: usize = 65_536;
 ///
 /// `NotBuilt` where the text isn't of this form, and `Memory` for want of memory.
 pub fn lone_main(alloc: Global, text: &[u8]) -> Result<Program, LoneFault>
-    ensures { Gives result (program_in text.now) }
+    ensures found { IfOk result (λ p. IsLoneProgram text.now p) }
+    ensures not_built { IsErrOf result LoneFault.NotBuilt → (p : Program) → IsLoneProgram text.now p → ⊥ }
+    ensures formed { IfOk result (λ p. IsFormed p) }
+    ensures built { IfOk result (λ p. HasBuiltActions p) }
 {
-    if text.len() > MAX_TEXT {
-        return Err(LoneFault::NotBuilt);
-    }
-    let tokens = scanner::tokens_of(alloc, text)?;
-    let tree = parser::tree_of(alloc, tokens.as_slice())?;
-    if !names::is_within_limits(&tree) {
-        return Err(LoneFault::NotBuilt);
-    }
-    let names = names::declared_names(alloc, tree.statements.as_slice())?;
-    let program = build::program_of(alloc, &tree, names.as_slice())?;
-    Ok(program)
+    read_program(alloc, text)
 }
+
+/// A text has at most one program.
+pub fn one_program()
+    ensures { (text : List ℕ) (p q : Program) → IsLoneProgram text p → IsLoneProgram text q → p ≡ q }
+{}

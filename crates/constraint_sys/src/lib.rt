@@ -2,12 +2,16 @@
 //! gets from its edges, and the turns that solve it.
 #![tactic(auto)]
 
+mod dirty;
 mod law;
+mod table;
 mod unknown;
 mod value;
 
+pub use dirty::Dirty;
 pub use law::{
     clean_is_post_solution, initial_is_sound, replays_are_sound, replays_go_on, turns_keep_sound,
 };
+pub use table::Table;
 pub use unknown::{ArgKey, Key, Unknown};
 pub use value::{Contribution, Effect, Value};

@@ -1,7 +1,6 @@
 -- What a sink in memory does: each call as a function of the sink's state.
-use Rattle.std.specs.Prelude.{ℕ, ◌-◌, nat_eq, List, ◌++◌, length, min, Bool, if◌then◌else◌, Result, Ok, Err}
-use Rattle.std.specs.List.{list_any}
-use Rattle.gob_outside.specs.Count.{one_more}
+use Rattle.std.specs.Prelude.{ℕ, ◌-◌, nat_eq, List, ◌++◌, length, min, if◌then◌else◌, Result, Ok, Err}
+use Rattle.gob_outside.specs.Count.{one_more, fails_next}
 use Rattle.gob_outside.specs.declared.failed.Failed.{Failed}
 
 -- the state of a sink in memory
@@ -18,10 +17,6 @@ pub record SinkState : Type 0 where
   pub calls : ℕ
   -- how many of them failed
   pub faults : ℕ
-
--- whether the next call is one of those that fail
-abbrev pub fails_next : List ℕ → ℕ → Bool
-fails_next failing calls = list_any (λ call. nat_eq call (one_more calls)) failing
 
 -- how many bytes of a piece a write moves, where it doesn't fail
 abbrev pub moved_count : SinkState → List ℕ → ℕ

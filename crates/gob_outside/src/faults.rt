@@ -11,7 +11,7 @@ use std::collections::BTreeMap;
 // How many loads of each name failed; a name that isn't in it has 0.
 pub(crate) type FaultCounts = BTreeMap<String, u64>;
 
-/// Counts one more fault of a name, and gives why its load failed: `Memory` where there was none to
+// Counts one more fault of a name, and gives why its load failed: `Memory` where there was none to
 // count it in.
 pub(crate) fn failure(counts: &mut FaultCounts, alloc: Global, name: &str) -> FileFail
     ensures failed { (other : List ℕ) → result ≡ FileFail.Failed → count_of counts.new other

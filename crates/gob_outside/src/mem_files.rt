@@ -1,9 +1,7 @@
-ghost use Rattle.std.specs.Prelude.{◌≡◌, ◌≢◌, ℕ, ◌≤◌, ◌<◌, List, length, unwrap_or, option_map, Option, Some, None, Ok, IfOk, IfErr, MatchResult, MatchOption, vec_len};
-ghost use Rattle.std.specs.BTreeMap.{get_by_text};
+ghost use Rattle.std.specs.Prelude.{◌≡◌, ◌≢◌, ℕ, ◌≤◌, ◌<◌, List, length, Option, Some, None, Ok, IsOk, IfOk, MatchOption};
 ghost use Rattle.gob_outside.specs.declared.files.FileFail.{FileFail};
-ghost use Rattle.gob_outside.specs.Count.{Rose, one_more};
+ghost use Rattle.gob_outside.specs.Count.{Rose, one_more, fails_next};
 ghost use Rattle.gob_outside.specs.Faults.{count_of, noted};
-ghost use Rattle.gob_outside.specs.MemSink.{fails_next};
 ghost use Rattle.gob_outside.specs.MemFiles.{content_of, load_answer};
 
 use crate::faults::{FaultCounts, failure};
@@ -23,16 +21,17 @@ pub struct MemFiles {
 
 impl MemFiles {
     /// These files, of which no load was made yet. `failing` lists the loads that are to fail,
-    /// counted from 1. `Memory` is want of memory.
+    /// counted from 1. It takes no memory.
     pub fn new(
         alloc: Global,
         files: Vec<(Text, Vec<u8>)>,
         failing: Vec<u64>,
     ) -> Result<MemFiles, Memory>
+        ensures made { IsOk result }
         ensures files { IfOk result (λ held. held.files ≡ files) }
         ensures failing { IfOk result (λ held. held.failing ≡ failing) }
         ensures calls { IfOk result (λ held. held.calls ≡ 0) }
-        ensures faults { (name : List ℕ) → IfOk result (λ held. get_by_text held.faults name ≡ None) }
+        ensures faults { (name : List ℕ) → IfOk result (λ held. count_of held.faults name ≡ 0) }
     {
         Ok(MemFiles {
             files,

@@ -1,6 +1,6 @@
-ghost use Rattle.std.specs.Prelude.{◌≡◌, ℕ, ◌<◌, ◌≤◌, ◌+◌, ◌-◌, ◌++◌, [], length, take, option_map, vec_len, min, Some, IfOk, OnOk, OnErr, MatchResult};
-ghost use Rattle.gob_outside.specs.Count.{Rose, one_more};
-ghost use Rattle.gob_outside.specs.MemSink.{fails_next, write_answer, flush_answer, after_moving, after_failure};
+ghost use Rattle.std.specs.Prelude.{◌≡◌, ◌<◌, ◌≤◌, ◌+◌, ◌-◌, [], length, take, vec_len, min, Some, IfOk, OnErr, MatchResult};
+ghost use Rattle.gob_outside.specs.Count.{Rose, one_more, fails_next};
+ghost use Rattle.gob_outside.specs.MemSink.{write_answer, flush_answer, after_moving, after_failure};
 
 use crate::failed::Failed;
 use crate::sink::Sink;

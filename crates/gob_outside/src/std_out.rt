@@ -50,7 +50,12 @@ impl<W: Write> Sink for StdOut<W> {
         Err(Failed)
     }
 
-    fn flush(&mut self) -> Result<(), Failed> {
+    fn flush(&mut self) -> Result<(), Failed>
+        ensures passed_nothing { Keeps (W.contents self.old.stream) (W.contents self.new.stream) }
+        ensures fine { OnOk result (self.new.faults ≡ self.old.faults) }
+        ensures failed { OnErr result (Rose self.old.faults self.new.faults) }
+        ensures never_falls { self.old.faults ≤ self.new.faults }
+    {
         if flush_some(&mut self.stream) {
             return Ok(());
         }
@@ -85,7 +90,9 @@ fn write_some<W: Write>(stream: &mut W, piece: &[u8]) -> Option<usize>
 }
 
 // Whether the stream could be flushed.
-fn flush_some<W: Write>(stream: &mut W) -> bool {
+fn flush_some<W: Write>(stream: &mut W) -> bool
+    ensures kept { Keeps (W.contents stream.old) (W.contents stream.new) }
+{
     for _ in 0..TRIES {
         match stream.flush() {
             Ok(()) => return true,
@@ -102,7 +109,7 @@ mod tests {
     use crate::write::{Short, write_all};
     use std::{fs, io};
 
-    // A stream that is interrupted, then takes a byte, and then is closed.
+    // A stream that is interrupted, then takes a byte, and then is closed. It can't be flushed.
     #[derive(Drop)]
     struct Closing {
         calls: u8,
@@ -119,7 +126,7 @@ mod tests {
         }
 
         fn flush(&mut self) -> io::Result<()> {
-            Ok(())
+            Err(io::Error::from(ErrorKind::BrokenPipe))
         }
     }
 
@@ -138,6 +145,7 @@ mod tests {
     fn stops_at_a_closed_stream(rt: HostRuntime) {
         let mut closing = StdOut::new(Closing { calls: 0 });
         assert_eq!(rt; write_all(&mut closing, b"hello"), Err(Short { sent: 1 }));
-        assert_eq!(rt; closing.faults, 1);
+        assert_eq!(rt; closing.flush(), Err(Failed));
+        assert_eq!(rt; closing.faults, 2);
     }
 }

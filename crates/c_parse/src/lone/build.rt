@@ -2,6 +2,7 @@
 
 ghost use Rattle.std.specs.Prelude.{◌≡◌, ◌≤◌, ◌∷◌, [], length, map, IfOk};
 ghost use Rattle.c_parse.specs.declared.lone.tree.Statement.{Statement};
+ghost use Rattle.c_parse.specs.LoneForm as form;
 ghost use Rattle.c_parse.specs.LoneGraph as spec;
 
 use crate::lone::tree::{Act, LoneMain, Statement, Sum, Term};
@@ -141,7 +142,7 @@ fn slots_of(alloc: Global, names: &[Text]) -> Result<Seq<Slot>, Memory>
 fn graph_of(alloc: Global, tree: &LoneMain, names: &[Text]) -> Result<FuncGraph, Memory>
     requires names { length names.now ≤ 127 }
     requires statements { length tree.now.statements ≤ 4094 }
-    requires declared { names.now ≡ spec.names_of tree.now.statements }
+    requires declared { names.now ≡ form.names_of tree.now.statements }
     ensures { IfOk result (λ graph. graph ≡ spec.graph_of tree.now) }
 {
     let name = Text::of(alloc, b"main")?;
@@ -163,7 +164,7 @@ fn graph_of(alloc: Global, tree: &LoneMain, names: &[Text]) -> Result<FuncGraph,
 pub(crate) fn program_of(alloc: Global, tree: &LoneMain, names: &[Text]) -> Result<Program, Memory>
     requires names { length names.now ≤ 127 }
     requires statements { length tree.now.statements ≤ 4094 }
-    requires declared { names.now ≡ spec.names_of tree.now.statements }
+    requires declared { names.now ≡ form.names_of tree.now.statements }
     ensures { IfOk result (λ program. program ≡ spec.program_of tree.now) }
 {
     let graph = graph_of(alloc, tree, names)?;

@@ -3,7 +3,7 @@
 ghost use Rattle.std.specs.Prelude.{◌≡◌, ◌++◌, [], length, nat_le, false, IfOk, OnOk, IsErrOf, IsTrue};
 ghost use Rattle.std.specs.List.{list_all};
 ghost use Rattle.c_parse.specs.declared.lone.tree.Statement.{Statement};
-ghost use Rattle.c_parse.specs.LoneGraph as spec;
+ghost use Rattle.c_parse.specs.LoneForm as spec;
 ghost use Rattle.c_parse.specs.Words as words_spec;
 
 use crate::lone::fault::LoneFault;

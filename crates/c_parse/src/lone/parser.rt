@@ -1,8 +1,9 @@
 //! From tokens to the tree of a `main`.
 
 ghost use Rattle.std.specs.Prelude.{◌≡◌, ◌<◌, [], ◌∷◌, ◌++◌, length, MatchOption, IfSome};
-ghost use Rattle.c_parse.specs.LoneProgram.{Gives};
-ghost use Rattle.c_parse.specs.LoneTree as spec;
+ghost use Rattle.c_parse.specs.LoneReading.{Gives};
+ghost use Rattle.c_parse.specs.LoneForm as form;
+ghost use Rattle.c_parse.specs.LoneReading as spec;
 
 use crate::lone::fault::LoneFault;
 use crate::lone::token::{Token, TokenKind};
@@ -186,14 +187,14 @@ fn end_of(tokens: &[Token]) -> Result<Place, LoneFault>
 }
 
 fn is_return(act: &Act) -> bool
-    ensures { result ≡ spec.is_return act.now }
+    ensures { result ≡ form.is_return act.now }
 {
     matches!(act, Act::Return(_))
 }
 
 /// Whether the last statement returns, and no other.
 fn is_body(statements: &[Statement]) -> bool
-    ensures { result ≡ spec.is_body statements.now }
+    ensures { result ≡ form.is_body statements.now }
 {
     let mut left = statements;
     while let [first, rest @ ..] = left {

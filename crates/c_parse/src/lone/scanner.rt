@@ -2,7 +2,7 @@
 
 ghost use Rattle.std.specs.Prelude.{◌≡◌, ◌+◌, ◌^◌, ◌≤◌, ◌<◌, [], ◌∷◌, ◌++◌, length, MatchOption, IfSome};
 ghost use Rattle.std.specs.List.{prefix_len};
-ghost use Rattle.c_parse.specs.LoneProgram.{Gives};
+ghost use Rattle.c_parse.specs.LoneReading.{Gives};
 ghost use Rattle.c_parse.specs.LoneTokens as spec;
 ghost use Rattle.c_parse.specs.Words as words_spec;
 

@@ -1,5 +1,5 @@
 use Rattle.std.proofs.Common.{◌≡◌, ◌+◌, ◌≤◌, drop, length}
-use Rattle.c_parse.specs.LoneGraph as spec
+use Rattle.c_parse.specs.LoneForm as spec
 use Rattle.c_parse.proofs.lone.names.has_few_declarations.Given as goal
 
 abbrev pub invariant-loop-statement : goal.invariant-loop-statement

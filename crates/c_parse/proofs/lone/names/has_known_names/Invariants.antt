@@ -1,6 +1,6 @@
 use Rattle.std.proofs.Common.{◌≡◌, drop}
 use Rattle.std.specs.List.{list_all}
-use Rattle.c_parse.specs.LoneGraph as spec
+use Rattle.c_parse.specs.LoneForm as spec
 use Rattle.c_parse.proofs.lone.names.has_known_names.Given as goal
 
 abbrev pub invariant-loop-term : goal.invariant-loop-term

@@ -1,5 +1,5 @@
 use Rattle.std.proofs.Common.{◌≡◌, length}
-use Rattle.c_parse.specs.LoneTree as spec
+use Rattle.c_parse.specs.LoneReading as spec
 use Rattle.c_parse.proofs.LoneLists.{with_front}
 use Rattle.c_parse.proofs.lone.parser.body_of.Given as goal
 

@@ -1,5 +1,5 @@
 use Rattle.std.proofs.Common.{◌≡◌, length}
-use Rattle.c_parse.specs.LoneTree as spec
+use Rattle.c_parse.specs.LoneForm as spec
 use Rattle.c_parse.proofs.lone.parser.is_body.Given as goal
 
 abbrev pub invariant-loop-left : goal.invariant-loop-left

@@ -1,7 +1,7 @@
 use Rattle.std.proofs.Common.{◌≡◌, false, take}
 use Rattle.std.specs.List.{list_any}
 use Rattle.c_parse.specs.declared.lone.token.Token.{Token}
-use Rattle.c_parse.specs.LoneTree as spec
+use Rattle.c_parse.specs.LoneReading as spec
 use Rattle.c_parse.proofs.lone.parser.until_semicolon.Given as goal
 
 abbrev pub invariant-loop-i : goal.invariant-loop-i

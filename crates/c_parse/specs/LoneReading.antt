@@ -1,8 +1,14 @@
--- The form of a `main` that stands alone: what its tokens are read as, one case a production.
-use Rattle.std.specs.Prelude.{ℕ, Bool, true, false, not, ◌&&◌, if◌then◌else◌, List, [], ◌∷◌, codes, Option, Some, None}
+-- How the tokens of a `main` are read, from left to right. What is read is what is spelled, and nothing
+-- else is (the lemmas of proofs/LoneReadings), so no public promise speaks of this page.
+use Rattle.std.specs.Prelude.{◌≡◌, ℕ, nat_le, Result, Ok, Err, length, Bool, true, false, if◌then◌else◌, List, [], ◌∷◌, codes, Option, Some, None}
 use Rattle.std.specs.Str.{bytes_eq}
 use Rattle.gob_tree.specs.declared.place.Place.{Place}
-use Rattle.c_parse.specs.LoneTokens.{◌>>=◌}
+use Rattle.c_parse.specs.LoneTokens.{◌>>=◌, tokens_of}
+use Rattle.c_parse.specs.LoneGraph.{program_of}
+use Rattle.gob_tree.specs.declared.graph.Program.{Program}
+use Rattle.c_parse.specs.declared.lone.fault.LoneFault.{LoneFault}
+use Rattle.c_parse.specs.declared.lone.fault.LoneFault.TheVariants.{NotBuilt, Memory}
+use Rattle.c_parse.specs.LoneForm.{is_body, meets_conditions}
 use Rattle.c_parse.specs.declared.lone.token.Token.{Token}
 use Rattle.c_parse.specs.declared.lone.token.TokenKind.{TokenKind}
 use Rattle.c_parse.specs.declared.lone.token.TokenKind.TheVariants as kinds
@@ -13,6 +19,12 @@ use Rattle.c_parse.specs.declared.lone.tree.Act.{Act}
 use Rattle.c_parse.specs.declared.lone.tree.Act.TheVariants.{Declare, Assign, Return}
 use Rattle.c_parse.specs.declared.lone.tree.Statement.{Statement}
 use Rattle.c_parse.specs.declared.lone.tree.LoneMain.{LoneMain}
+
+-- what was returned is what is meant, unless memory ran out
+abbrev pub Gives : {A : Type 0} → Result A LoneFault → Option A → Type 0
+Gives (Ok x) meant = meant ≡ Some x
+Gives (Err NotBuilt) meant = meant ≡ None
+Gives (Err Memory) meant = Unit {0}
 
 abbrev pub is_plus : TokenKind → Bool
 is_plus kinds.Plus = true
@@ -105,17 +117,6 @@ end_of [] = None
 end_of (t ∷ []) = if is_close_brace t.kind then Some t.place else None
 end_of (t ∷ u ∷ ts) = None
 
-abbrev pub is_return : Act → Bool
-is_return (Declare x initial) = false
-is_return (Assign x sum) = false
-is_return (Return sum) = true
-
--- { item } "return": the last statement returns, and no other
-abbrev pub is_body : List Statement → Bool
-is_body [] = false
-is_body (s ∷ []) = is_return s.act
-is_body (s ∷ t ∷ ss) = not (is_return s.act) && is_body (t ∷ ss)
-
 -- { item } "return" sum ";" "}", in a main whose name has the place
 abbrev pub body_of : Place → List Token → Option LoneMain
 body_of p tokens =
@@ -137,3 +138,13 @@ tree_of (int ∷ name ∷ open_paren ∷ void ∷ close_paren ∷ open_brace ∷
     if is_head int.kind name.kind open_paren.kind void.kind close_paren.kind open_brace.kind
     then body_of name.place body else None
 tree_of _ = None
+
+-- the main where it meets the conditions
+abbrev pub checked_tree_of : List Token → Option LoneMain
+checked_tree_of tokens = tree_of tokens >>= λ tree. if meets_conditions tree then Some tree else None
+
+-- the program of a text
+abbrev pub program_in : List ℕ → Option Program
+program_in text =
+    if nat_le (length text) 65536
+    then (tokens_of text >>= λ tokens. checked_tree_of tokens >>= λ tree. Some (program_of tree)) else None
