@@ -2,13 +2,15 @@
 use Rattle.std.proofs.Common.{◌≡◌, ◌≢◌, ℕ, Bool, true, false, cond, List, [], ◌∷◌, ◌++◌, Option, Some, None, refl, sym, ap, ◌∙◌, rules, true≢false, ◌⊎◌, inl, inr, is_some, subst}
 use Rattle.std.proofs.lemmas.Bool.{cases_Bool}
 use Rattle.std.specs.Cmp.{IsEquivalence}
-use Rattle.std.specs.List.{AllByRecursion}
 use Rattle.std.specs.Map.{lookup}
+use Rattle.std.specs.Prelude.{IsSome}
 use Rattle.indexmap.specs.IndexMap.{insert_entry}
 use Rattle.constraint_sys.specs.contracts.unknown.UnknownEq.TheImpl.Laws.{laws-law}
+use Rattle.constraint_sys.specs.declared.unknown.Key.{Key}
 use Rattle.constraint_sys.specs.declared.unknown.Unknown.{Unknown}
+use Rattle.constraint_sys.specs.declared.unknown.Unknown.TheVariants.{Point, Global}
 use Rattle.constraint_sys.specs.declared.value.Value.{Value}
-use Rattle.constraint_sys.specs.Table.{TableValue, unknown_eq, value_at, with_value}
+use Rattle.constraint_sys.specs.Table.{TableValue, IsThere, unknown_eq, value_at, with_value}
 
 pub unknown_eq-same : (a b : Unknown) → unknown_eq a b ≡ true → a ≡ b
 unknown_eq-same a b h = search rules
@@ -27,6 +29,9 @@ cases_unknown a b = elim (cases_Bool (unknown_eq a b)) [
   | inl same ↦ inl (unknown_eq-same a b same)
   | inr apart ↦ inr (λ same. true≢false (sym (unknown_eq-refl a) ∙ ap (unknown_eq a) same ∙ apart))
 ]
+
+pub global_apart : (g f : ℕ) (key : Key) (node : ℕ) → Global g ≢ Point f key node
+global_apart g f key node same = cc
 
 module _ {K X : Type 0} (eq : K → K → Bool) (laws : IsEquivalence eq) (k : K) (v : X) (q : K) where
   -- the two tests of a step: the first entry has the key k, or q has another key than one of the two
@@ -77,3 +82,36 @@ module _ (P : Unknown → Value → Type 0) where
   pub AllEntries-append : (s t : TableValue) → AllEntries s → AllEntries t → AllEntries (s ++ t)
   AllEntries-append [] t first second = second
   AllEntries-append (e ∷ s) t first second = (first.0, AllEntries-append s t first.1 second)
+
+-- which unknowns are there
+module _ (u : Unknown) where
+  there_with : (b : Bool) (v : Value) (o : Option Value) → IsSome o → IsSome (cond b (Some v) o)
+  there_with true v o there = refl
+  there_with false v o there = there
+
+  pub IsThere-cons : (e : Unknown × Value) (t : TableValue) → IsThere t u → IsThere (e ∷ t) u
+  IsThere-cons e t there = there_with (unknown_eq u e.0) e.1 (value_at t u) there
+
+  pub value_at-head : (v : Value) (t : TableValue) → value_at ((u, v) ∷ t) u ≡ Some v
+  value_at-head v t = ap (λ (b : Bool). cond b (Some v) (value_at t u)) (unknown_eq-refl u)
+
+  pub IsThere-append_right : (s t : TableValue) → IsThere t u → IsThere (s ++ t) u
+  IsThere-append_right [] t there = there
+  IsThere-append_right (e ∷ s) t there = IsThere-cons e (s ++ t) (IsThere-append_right s t there)
+
+  there_before : (b : Bool) (v : Value) (o long : Option Value) → (IsSome o → IsSome long) → IsSome (cond b (Some v) o) → IsSome (cond b (Some v) long)
+  there_before true v o long later there = refl
+  there_before false v o long later there = later there
+
+  pub IsThere-append_left : (s t : TableValue) → IsThere s u → IsThere (s ++ t) u
+  IsThere-append_left [] t there = absurd (true≢false (sym there))
+  IsThere-append_left (e ∷ s) t there = there_before (unknown_eq u e.0) e.1 (value_at s u) (value_at (s ++ t) u) (IsThere-append_left s t) there
+
+  -- entries of other unknowns are passed by
+  pub value_at-past : (s t : TableValue) → AllEntries (λ r v. u ≢ r) s → value_at (s ++ t) u ≡ value_at t u
+  value_at-past [] t apart = refl
+  value_at-past (e ∷ s) t apart = ap (λ (b : Bool). cond b (Some e.1) (value_at (s ++ t) u)) (unknown_eq-apart u e.0 apart.0) ∙ value_at-past s t apart.1
+
+pub there_value : (o : Option Value) → IsSome o → (v : Value) × (o ≡ Some v)
+there_value None there = absurd (true≢false (sym there))
+there_value (Some v) there = (v, refl)

@@ -3,7 +3,9 @@ pub mod Entries
 pub mod Locality
 pub mod Ordered
 pub mod Quiet
+pub mod Replaying
+pub mod Rising
 pub mod Rooms
-pub mod Same
 pub mod Shaping
+pub mod SoundStart
 pub mod SoundTurns

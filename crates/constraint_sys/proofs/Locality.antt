@@ -1,5 +1,5 @@
 -- A point gets the same from two tables that show the same at what it reads.
-use Rattle.std.proofs.Common.{◌≡◌, ℕ, zero, suc, List, [], ◌∷◌, ◌++◌, Option, refl, sym, ap, ◌∙◌, arith, subst}
+use Rattle.std.proofs.Common.{◌≡◌, ℕ, List, [], ◌∷◌, Option, refl, sym, ap, ◌∙◌, arith, subst}
 use Rattle.std.specs.Prelude.{All, Contains, length}
 use Rattle.std.proofs.lemmas.List.Elements.{All-nil, Contains-append_right}
 use Rattle.gob_tree.specs.Built.{HasBuiltActions}
@@ -9,10 +9,10 @@ use Rattle.gob_tree.specs.declared.graph.Program.{Program}
 use Rattle.state_dom.specs.StateValue.{StateValue, Bottom, Reached, join_of}
 use Rattle.constraint_sys.specs.declared.unknown.Key.{Key}
 use Rattle.constraint_sys.specs.declared.unknown.Unknown.{Unknown}
-use Rattle.constraint_sys.specs.declared.unknown.Unknown.TheVariants.{Point, Global}
+use Rattle.constraint_sys.specs.declared.unknown.Unknown.TheVariants.{Point}
 use Rattle.constraint_sys.specs.declared.value.Effect.{Effect}
 use Rattle.constraint_sys.specs.declared.value.Value.{Value}
-use Rattle.constraint_sys.specs.declared.value.Value.TheVariants.{State, Number}
+use Rattle.constraint_sys.specs.declared.value.Value.TheVariants.{State}
 use Rattle.constraint_sys.specs.Contribution.{edges_into, outcome_of, joined, reads_of, contribution_of}
 use Rattle.constraint_sys.specs.PostSolution.{BoundsAt, IsSatisfied}
 use Rattle.constraint_sys.specs.Table.{TableValue, value_at, slots_at, shown, shown_state}

@@ -1,6 +1,6 @@
 -- States that keep the shape of a function's slots.
-use Rattle.std.proofs.Common.{◌≡◌, ℕ, zero, suc, ◌<◌, ℤ, List, [], ◌∷◌, ◌++◌, Option, None, Some, refl, sym, ap, ◌∙◌, arith}
-use Rattle.std.specs.Prelude.{Contains, length, slice_get, slice_set, if◌then◌else◌}
+use Rattle.std.proofs.Common.{◌≡◌, ℕ, zero, suc, ℤ, List, [], ◌∷◌, ◌++◌, Option, None, Some, refl, ap, arith}
+use Rattle.std.specs.Prelude.{length, slice_get, slice_set, if◌then◌else◌}
 use Rattle.std.specs.List.{flat_map}
 use Rattle.std.proofs.lemmas.List.Elements.{Contains-append_left, Contains-append_right}
 use Rattle.gob_tree.specs.Widths.{lowest, greatest}
@@ -15,28 +15,31 @@ use Rattle.interval_dom.specs.Marks.{widened}
 use Rattle.interval_dom.specs.Ranges.{full}
 use Rattle.interval_dom.specs.declared.width.Width.{Width}
 use Rattle.interval_dom.specs.declared.width.Width.TheVariants.{W32, W64}
-use Rattle.interval_dom.proofs.Within.{HasEnds, Covers-refl, Covers-wide, fitted-within, hull-within, widened-within, widened-bounds}
-use Rattle.lockset_dom.specs.Members.{Includes, shared_members}
+use Rattle.interval_dom.proofs.Within.{HasEnds, Covers-wide, fitted-within, hull-within, widened-within, widened-bounds}
 use Rattle.lockset_dom.proofs.Membership.{Holds-shared_members}
 use Rattle.state_dom.specs.Evaluation.{valued, converted_to, interval_width_of, width_at}
-use Rattle.state_dom.specs.StateValue.{StateValue, Bottom, Reached, CoversEach, CoversState, on_each, join_of, raised_by}
+use Rattle.state_dom.specs.StateValue.{StateValue, Bottom, Reached, room_of, CoversEach, CoversState, on_each, join_of, raised_by}
 use Rattle.state_dom.specs.ThresholdValues.{thresholds_of, neighbours, numbers_of_program, widest, has_wide, ends_of_type}
 use Rattle.state_dom.proofs.Bounding.{CoversState-refl}
 use Rattle.constraint_sys.specs.declared.unknown.Key.{Key}
-use Rattle.constraint_sys.specs.declared.unknown.Unknown.{Unknown}
-use Rattle.constraint_sys.specs.declared.unknown.Unknown.TheVariants.{Point, Global}
+use Rattle.constraint_sys.specs.declared.unknown.Unknown.TheVariants.{Point}
 use Rattle.constraint_sys.specs.declared.value.Value.{Value}
 use Rattle.constraint_sys.specs.declared.value.Value.TheVariants.{State, Number}
 use Rattle.constraint_sys.specs.Contribution.{edges_into, outcome_of, joined, contribution_of}
-use Rattle.constraint_sys.specs.Sound.{FitsEach, HasShape, IsShaped, IsShapedEntry}
+use Rattle.constraint_sys.specs.Sound.{FitsEach, HasShape, IsShaped}
 use Rattle.constraint_sys.specs.Table.{TableValue, value_at, slots_at, state_at, shown, shown_state}
-use Rattle.constraint_sys.specs.Transfer.{assigned, with_slot, outcome_in, transfer}
+use Rattle.constraint_sys.specs.Transfer.{assigned, outcome_in, transfer}
 
 pub length-fitted : (slots : List Slot) (xs : List Bounds) → FitsEach slots xs → length xs ≡ length slots
 length-fitted [] [] each = refl
 length-fitted [] (x ∷ xs) each = absurd each
 length-fitted (slot ∷ slots) [] each = absurd each
 length-fitted (slot ∷ slots) (x ∷ xs) each = ap suc (length-fitted slots xs each.1)
+
+-- a shaped state has room for the slots
+pub room_of-shaped : (slots : List Slot) (s : StateValue) → HasShape slots s → room_of s ≡ length slots
+room_of-shaped slots (Bottom room) shaped = shaped
+room_of-shaped slots (Reached xs locks) shaped = length-fitted slots xs shaped
 
 -- an interval that fits its slot may be set there
 pub FitsEach-set : (slots : List Slot) (xs : List Bounds) (i : ℕ) (v : Bounds) → FitsEach slots xs → Covers (full (interval_width_of (width_at (slice_get slots i)))) v → FitsEach slots (slice_set xs i v)
@@ -65,8 +68,7 @@ HasAllEnds marks = (w : Width) → HasEnds marks w
 pub HasAllEnds-thresholds : (p : Program) → HasAllEnds (thresholds_of p)
 HasAllEnds-thresholds p W32 =
     let front = flat_map (neighbours (widest p)) (numbers_of_program p) in
-    let back = if has_wide p then ends_of_type Long else [] in
-    (
+    let back = if has_wide p then ends_of_type Long else [] in (
       Contains-append_left (front ++ ends_of_type Int) back (lowest Int) (Contains-append_right front (ends_of_type Int) (lowest Int) (0, omega arith, refl)),
       Contains-append_left (front ++ ends_of_type Int) back (greatest Int) (Contains-append_right front (ends_of_type Int) (greatest Int) (1, omega arith, refl)),
     )

@@ -1,13 +1,12 @@
 -- Intervals that stay within a width, and the order of an interval and the one that raised it.
-use Rattle.std.proofs.Common.{◌≡◌, ℤ, ◌≤ℤ◌, Bool, true, false, cond, List, arith, refl, sym, subst, ◌⊎◌, inl, inr, true≢false}
+use Rattle.std.proofs.Common.{◌≡◌, ℤ, ◌≤ℤ◌, true, false, List, arith, refl, ◌⊎◌, inl, inr, true≢false}
 use Rattle.std.specs.Prelude.{Contains, filter, int_le, int_lt}
-use Rattle.std.specs.Int.{int_min, int_max}
 use Rattle.std.proofs.lemmas.Bool.{cases_Bool, cond_both, and_parts}
 use Rattle.std.proofs.lemmas.Int.{ints, fold-int_max_bounds, fold-int_min_bounds}
 use Rattle.std.proofs.lemmas.List.Elements.{All-contains}
 use Rattle.interval_dom.specs.declared.width.Width.{Width}
 use Rattle.interval_dom.specs.declared.width.Width.TheVariants.{W32, W64}
-use Rattle.interval_dom.specs.Bounds.{Bounds, between, Covers, covers, hull}
+use Rattle.interval_dom.specs.Bounds.{Bounds, Covers, covers, hull}
 use Rattle.interval_dom.specs.Ranges.{least, greatest, full, fitted}
 use Rattle.interval_dom.specs.Marks.{mark_below, mark_above, widened}
 use Rattle.interval_dom.proofs.Resting.{mark_below-ge, mark_above-le, mark_below-outside, mark_above-outside}

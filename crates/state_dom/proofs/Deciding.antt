@@ -1,8 +1,7 @@
 -- A state bounds another, or doesn't.
-use Rattle.std.proofs.Common.{ℕ, ◌⊎◌, ◌↔◌, List, [], ◌∷◌, inl, inr, bit_and, nat_eq}
-use Rattle.std.specs.Prelude.{IsTrue}
+use Rattle.std.proofs.Common.{ℕ, ◌⊎◌, List, [], ◌∷◌, inl, inr, bit_and, nat_eq}
 use Rattle.std.proofs.lemmas.Bool.{cases_Bool, both_ways}
-use Rattle.interval_dom.specs.Bounds.{Bounds, Covers}
+use Rattle.interval_dom.specs.Bounds.{Bounds}
 use Rattle.interval_dom.proofs.Within.{cases_Covers}
 use Rattle.lockset_dom.specs.Members.{Includes}
 use Rattle.lockset_dom.proofs.Membership.{Includes-test}

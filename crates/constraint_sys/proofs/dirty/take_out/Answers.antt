@@ -4,7 +4,7 @@ use Rattle.std.proofs.lemmas.Fn.{filter_same}
 use Rattle.std.proofs.lemmas.List.Kept.{IsSortedBy-filter}
 use Rattle.std.proofs.lemmas.List.MinMax.{ranks_by}
 use Rattle.constraint_sys.proofs.Ordered.{Contains-filter, Contains-filtered}
-use Rattle.constraint_sys.proofs.Same.{unknown_eq-apart, unknown_eq-itself}
+use Rattle.constraint_sys.proofs.Entries.{unknown_eq-apart, unknown_eq-refl}
 use Rattle.constraint_sys.specs.declared.unknown.Unknown.{Unknown}
 use Rattle.constraint_sys.specs.contracts.unknown.UnknownOrd.TheImpl.Laws.{total-law}
 use Rattle.constraint_sys.specs.Table.{unknown_eq, unknown_cmp}
@@ -19,7 +19,7 @@ returns-clause-members c =
     let done = c.args.done in
     let test : Unknown → Bool = λ q. not (unknown_eq q done) in
     λ q. subst (λ (l : List Unknown). Contains l q ↔ (Contains points q × (q ≢ done))) (sym (returns-clause-kept c)) (
-      λ kept. let both = Contains-filter test points q kept in (both.0, λ same. true≢false (sym both.1 ∙ ap test same ∙ ap not (unknown_eq-itself done))),
+      λ kept. let both = Contains-filter test points q kept in (both.0, λ same. true≢false (sym both.1 ∙ ap test same ∙ ap not (unknown_eq-refl done))),
       λ both. Contains-filtered test points q both.0 (ap not (unknown_eq-apart q done (λ same. both.1 (sym same)))),
     )
 
