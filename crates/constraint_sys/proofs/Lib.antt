@@ -3,9 +3,13 @@ pub mod Entries
 pub mod Locality
 pub mod Ordered
 pub mod Quiet
+pub mod Readers
 pub mod Replaying
 pub mod Rising
 pub mod Rooms
+pub mod SameMarks
 pub mod Shaping
 pub mod SoundStart
 pub mod SoundTurns
+pub mod Starting
+pub mod Turning

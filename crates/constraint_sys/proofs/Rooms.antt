@@ -5,18 +5,17 @@ use Rattle.std.proofs.lemmas.Option.{slice_get_within}
 use Rattle.gob_tree.specs.declared.graph.FuncGraph.{FuncGraph}
 use Rattle.gob_tree.specs.declared.graph.Program.{Program}
 use Rattle.gob_tree.specs.declared.unit.Slot.{Slot}
-use Rattle.state_dom.specs.StateValue.{StateValue, Bottom, Reached, room_of}
-use Rattle.constraint_sys.proofs.Shaping.{length-fitted}
+use Rattle.interval_dom.specs.Bounds.{Bounds}
+use Rattle.state_dom.specs.StateValue.{StateValue, room_of}
+use Rattle.constraint_sys.proofs.Shaping.{contribution-shaped, room_of-shaped}
 use Rattle.constraint_sys.specs.declared.unknown.Key.{Key}
-use Rattle.constraint_sys.specs.declared.unknown.Unknown.TheVariants.{Point}
+use Rattle.constraint_sys.specs.Contribution.{contribution_at, contribution_of}
+use Rattle.constraint_sys.specs.declared.unknown.Unknown.{Unknown}
+use Rattle.constraint_sys.specs.declared.unknown.Unknown.TheVariants.{Point, Global}
 use Rattle.constraint_sys.specs.declared.value.Value.{Value}
 use Rattle.constraint_sys.specs.declared.value.Value.TheVariants.{State, Number}
-use Rattle.constraint_sys.specs.Sound.{CanTurn, HasShape, IsShaped}
+use Rattle.constraint_sys.specs.Sound.{CanTurn, IsShaped}
 use Rattle.constraint_sys.specs.Table.{TableValue, IsThere, value_at, nodes_at, nodes_of_function, slots_at, slots_of_function, edges_at, edges_of_function}
-
-pub room_of-shaped : (slots : List Slot) (s : StateValue) → HasShape slots s → room_of s ≡ length slots
-room_of-shaped slots (Bottom room) shape = shape
-room_of-shaped slots (Reached state locks) shape = length-fitted slots state shape
 
 pub slots_at-function : (p : Program) (f : ℕ) (function : FuncGraph) → slice_get p.funcs f ≡ Some function → slots_at p f ≡ function.slots
 slots_at-function p f function is = ap slots_of_function is
@@ -50,3 +49,13 @@ IsThere-turned t f key (suc node) can = can
 pub function_within : (p : Program) (t : TableValue) (f : ℕ) (key : Key) (node : ℕ) → IsShaped p t → CanTurn t (Point f key node) → f < length p.funcs
 function_within p t f key node shaped can =
     function_with_node p f node (slice_get p.funcs f) refl (node_within p f key node t shaped (IsThere-turned t f key node can))
+
+-- a point that can turn has a state, and no number
+pub no_number : (p : Program) (t : TableValue) (u : Unknown) (n : Bounds) → IsShaped p t → CanTurn t u → value_at t u ≡ Some (Number n) → ⊥
+no_number p t (Point f key node) n shaped can at = shaped (Point f key node) (Number n) at
+no_number p t (Global g) n shaped can at = can
+
+pub state_room : (p : Program) (t : TableValue) (u : Unknown) (s : StateValue) → IsShaped p t → CanTurn t u → value_at t u ≡ Some (State s) → room_of s ≡ room_of (contribution_at p t u).value
+state_room p t (Point f key node) s shaped can at =
+    room_of-shaped (slots_at p f) s (shaped (Point f key node) (State s) at).1 ∙ sym (room_of-shaped (slots_at p f) (contribution_of p t f key node).value (contribution-shaped p t f key node shaped))
+state_room p t (Global g) s shaped can at = absurd can

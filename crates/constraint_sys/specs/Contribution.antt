@@ -1,5 +1,5 @@
 -- What a point gets from the edges that end there.
-use Rattle.std.specs.Prelude.{ℕ, zero, suc, Bool, ◌&&◌, List, [], ◌∷◌, filter, is_some, length, map, nat_eq}
+use Rattle.std.specs.Prelude.{◌≢◌, None, Contains, ℕ, zero, suc, Bool, ◌&&◌, List, [], ◌∷◌, filter, is_some, length, map, nat_eq}
 use Rattle.std.specs.List.{flat_map}
 use Rattle.gob_tree.specs.declared.graph.Edge.{Edge}
 use Rattle.gob_tree.specs.declared.graph.Program.{Program}
@@ -55,3 +55,7 @@ reads_from t f key node e = nat_eq e.from node && is_some (value_at t (Point f k
 -- the points of the table that the edges from a node lead to
 abbrev pub readers_of : Program → TableValue → ℕ → Key → ℕ → List Unknown
 readers_of p t f key node = map (λ (e : Edge). Point f key e.to) (filter (reads_from t f key node) (edges_at p f))
+
+-- q is a point of the table whose right side reads u
+abbrev pub Reads : Program → TableValue → Unknown → Unknown → Type 0
+Reads p t q u = (value_at t q ≢ None) × Contains (read_by p t q) u

@@ -3,12 +3,11 @@ use Rattle.std.specs.Prelude.{◌≡◌, ◌≢◌, ◌⊎◌, ◌↔◌, ℕ, z
 use Rattle.gob_tree.specs.declared.graph.Program.{Program}
 use Rattle.gob_tree.specs.declared.unit.GlobalDecl.{GlobalDecl}
 use Rattle.interval_dom.specs.Marks.{widened}
-use Rattle.state_dom.specs.StateValue.{StateValue, Bottom, raised_by}
+use Rattle.state_dom.specs.StateValue.{Bottom, raised_by}
 use Rattle.state_dom.specs.ThresholdValues.{thresholds_of}
 use Rattle.constraint_sys.specs.declared.unknown.Key.{Key}
 use Rattle.constraint_sys.specs.declared.unknown.Unknown.{Unknown}
 use Rattle.constraint_sys.specs.declared.unknown.Unknown.TheVariants.{Point, Global}
-use Rattle.constraint_sys.specs.declared.value.Contribution.{Contribution}
 use Rattle.constraint_sys.specs.declared.value.Effect.{Effect}
 use Rattle.constraint_sys.specs.declared.value.Value.{Value}
 use Rattle.constraint_sys.specs.declared.value.Value.TheVariants.{State, Number}

@@ -30,8 +30,24 @@ pub fn contribution(
     requires there { CanTurn table.now u }
     ensures { IfOk result (λ c. c ≡ contribution_at program.now table.now u) }
 {
+    contribution_to(alloc, program, table, &u)
+}
+
+/// The same of a point that is lent.
+pub(crate) fn contribution_to(
+    alloc: Global,
+    program: &Program,
+    table: &Table,
+    u: &Unknown,
+) -> Result<Contribution, Memory>
+    requires formed { IsFormed program.now }
+    requires built { HasBuiltActions program.now }
+    requires shaped { IsShaped program.now table.now }
+    requires there { CanTurn table.now u.now }
+    ensures { IfOk result (λ c. c ≡ contribution_at program.now table.now u.now) }
+{
     match u {
-        Unknown::Point { func, key, node } => of_point(alloc, program, table, func, &key, node),
+        Unknown::Point { func, key, node } => of_point(alloc, program, table, *func, key, *node),
         Unknown::Global(_) => unreachable!(),
     }
 }
@@ -224,6 +240,7 @@ pub(crate) fn function_at(program: &Program, func: u16) -> &FuncGraph
     requires in_range { func < length program.now.funcs }
     ensures is { slice_get program.now.funcs func ≡ Some result.now }
     ensures formed { IsFormedFunction program.now result.now }
+    ensures nodes_limit { length result.now.nodes ≤ 4096 }
 {
     &program.funcs.as_slice()[func as usize]
 }

@@ -5,7 +5,7 @@ ghost use Rattle.interval_dom.specs.Bounds.{between};
 ghost use Rattle.state_dom.specs.StateValue.{start_of};
 ghost use Rattle.constraint_sys.specs.Table.{value_at, empty_key, unknown_cmp};
 ghost use Rattle.constraint_sys.specs.Turn.{initial_table, initial_dirty, initial_globals, bottoms, nodes_after_start};
-ghost use Rattle.constraint_sys.specs.declared.unknown.Unknown.TheVariants.{Point, Global};
+ghost use Rattle.constraint_sys.specs.declared.unknown.Unknown.TheVariants.{Point, Global as GlobalOf};
 ghost use Rattle.constraint_sys.specs.declared.value.Value.TheVariants.{State as StateOf};
 
 use crate::dirty::Dirty;
@@ -74,10 +74,11 @@ fn add_nodes(
     function: &FuncGraph,
 ) -> Result<(), Memory>
     requires slots_limit { length function.now.slots ≤ 128 }
+    requires entry_and_exit { 2 ≤ length function.now.nodes }
     requires nodes_limit { length function.now.nodes ≤ 4096 }
     requires absent { (node : ℕ) → 1 ≤ node → value_at table.old (Point func empty_key node) ≡ None }
     ensures nodes { OnOk result (table.new ≡ table.old ++ bottoms (length function.now.slots) func empty_key (length function.now.nodes)) }
-    ensures globals { (g : ℕ) → OnOk result (value_at table.new (Global g) ≡ value_at table.old (Global g)) }
+    ensures globals { (g : ℕ) → OnOk result (value_at table.new (GlobalOf g) ≡ value_at table.old (GlobalOf g)) }
 {
     let slots = room(function);
     let nodes = function.nodes.len() as u16;
@@ -91,7 +92,7 @@ fn add_nodes(
 /// Adds the globals at their initial values.
 fn add_globals(table: &mut Table, globals: &[GlobalDecl]) -> Result<(), Memory>
     requires limit { length globals.now ≤ 64 }
-    requires absent { (g : ℕ) → value_at table.old (Global g) ≡ None }
+    requires absent { (g : ℕ) → value_at table.old (GlobalOf g) ≡ None }
     ensures { OnOk result (table.new ≡ table.old ++ initial_globals 0 globals.now) }
 {
     let count = globals.len() as u16;
@@ -113,7 +114,8 @@ fn exactly(n: i64) -> Interval
 
 /// A function's nodes but the start.
 fn nodes_after_start(alloc: Global, func: u16, function: &FuncGraph) -> Result<Vec<Unknown>, Memory>
-    requires { length function.now.nodes ≤ 4096 }
+    requires entry_and_exit { 2 ≤ length function.now.nodes }
+    requires nodes_limit { length function.now.nodes ≤ 4096 }
     ensures nodes { IfOk result (λ us. us.items ≡ nodes_after_start func empty_key (length function.now.nodes)) }
     ensures ascending { IfOk result (λ us. IsSorted unknown_cmp us.items) }
 {

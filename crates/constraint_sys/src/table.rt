@@ -89,11 +89,11 @@ impl Table {
     }
 
     /// Gives an unknown of the table another value; takes no memory.
-    pub(crate) fn set(&mut self, u: Unknown, v: Value)
-        requires { IsThere self.old u }
-        ensures { self.new ≡ with_value self.old u v }
+    pub(crate) fn set(&mut self, u: &Unknown, v: Value)
+        requires { IsThere self.old u.now }
+        ensures { self.new ≡ with_value self.old u.now v }
     {
-        match put(&mut self.map, u, v) {
+        match put(&mut self.map, *u, v) {
             Ok(()) => {}
             Err(_) => unreachable!(),
         }

@@ -5,7 +5,7 @@ ghost use Rattle.gob_tree.specs.Built.{HasBuiltActions};
 ghost use Rattle.gob_tree.specs.Formed.{IsFormed};
 ghost use Rattle.state_dom.specs.StateValue.{StateValue, CoversState, room_of, raised_by};
 ghost use Rattle.state_dom.specs.ThresholdValues.{thresholds_of};
-ghost use Rattle.constraint_sys.specs.Contribution.{contribution_at, read_by, readers_of};
+ghost use Rattle.constraint_sys.specs.Contribution.{Reads, readers_of};
 ghost use Rattle.constraint_sys.specs.Sound.{IsShaped, CanTurn};
 ghost use Rattle.constraint_sys.specs.Table.{value_at, IsThere};
 ghost use Rattle.constraint_sys.specs.Turn.{Turns};
@@ -13,7 +13,7 @@ ghost use Rattle.constraint_sys.specs.declared.unknown.Unknown.{Unknown as TheUn
 ghost use Rattle.constraint_sys.specs.declared.value.Value.TheVariants.{State as StateOf};
 
 use crate::dirty::Dirty;
-use crate::edges::{contribution, function_at};
+use crate::edges::{contribution_to, function_at};
 use crate::table::Table;
 use crate::unknown::{Key, Unknown};
 use crate::value::Value;
@@ -42,45 +42,48 @@ pub fn turn(
     ensures same_table { OnErr result (table.new ≡ table.old) }
     ensures same_dirty { OnErr result (dirty.new ≡ dirty.old) }
 {
-    let given = contribution(alloc, program, table, u)?;
-    let mut state = state_of(alloc, table, u)?;
-    let readers = if state.up(&given.value, marks) {
-        readers(alloc, program, table, u)?
-    } else {
-        Vec::new(alloc)
-    };
-    dirty.exchange(u, readers.as_slice())?;
-    table.set(u, Value::State(state));
+    let given = contribution_to(alloc, program, table, &u)?;
+    let mut state = state_of(alloc, program, table, &u)?;
+    let rose = state.up(&given.value, marks);
+    let readers = readers_if(alloc, program, table, &u, rose)?;
+    dirty.exchange(&u, readers.as_slice())?;
+    table.set(&u, Value::State(state));
     Ok(())
 }
 
 /// A copy of the state of a point of the table.
-fn state_of(alloc: Global, table: &Table, u: Unknown) -> Result<State, Memory>
-    requires { IsThere table.now u }
-    ensures { IfOk result (λ s. value_at table.now u ≡ Some (StateOf s)) }
+fn state_of(alloc: Global, program: &Program, table: &Table, u: &Unknown) -> Result<State, Memory>
+    requires shaped { IsShaped program.now table.now }
+    requires there { CanTurn table.now u.now }
+    ensures { IfOk result (λ s. value_at table.now u.now ≡ Some (StateOf s)) }
 {
-    match table.get(&u) {
+    match table.get(u) {
         Some(Value::State(state)) => state.copy(alloc),
-        _ => unreachable!(),
+        Some(Value::Number(_)) => unreachable!(),
+        None => unreachable!(),
     }
 }
 
-/// The points of the table that read this one.
-fn readers(
+/// The points of the table that read this one, where it rose.
+fn readers_if(
     alloc: Global,
     program: &Program,
     table: &Table,
-    u: Unknown,
+    u: &Unknown,
+    rose: bool,
 ) -> Result<Vec<Unknown>, Memory>
     requires formed { IsFormed program.now }
     requires built { HasBuiltActions program.now }
     requires shaped { IsShaped program.now table.now }
-    requires there { CanTurn table.now u }
-    ensures { (q : TheUnknown) → IfOk result (λ us. Contains us.items q ↔ (IsThere table.now q × Contains (read_by program.now table.now q) u)) }
+    requires there { CanTurn table.now u.now }
+    ensures { (q : TheUnknown) → IfOk result (λ us. Contains us.items q ↔ (IsTrue rose × Reads program.now table.now q u.now)) }
 {
     match u {
-        Unknown::Point { func, key, node } => readers_of(alloc, program, table, func, &key, node),
-        Unknown::Global(_) => unreachable!(),
+        Unknown::Point { func, key, node } if rose => {
+            let readers = readers_of(alloc, program, table, *func, key, *node)?;
+            Ok(readers)
+        }
+        _ => Ok(Vec::new(alloc)),
     }
 }
 

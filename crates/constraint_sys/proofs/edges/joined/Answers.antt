@@ -1,14 +1,12 @@
-use Rattle.std.proofs.Common.{◌≡◌, ◌+◌, ◌-◌, ◌<◌, ◌≤◌, ◌∷◌, ℕ, true, nat_eq, List, length, drop, sym, ap, ◌∙◌, arith, subst}
+use Rattle.std.proofs.Common.{◌≡◌, ◌+◌, ◌-◌, ◌<◌, ◌∷◌, ℕ, true, nat_eq, length, drop, sym, ap, ◌∙◌, arith}
 use Rattle.std.specs.Prelude.{filter}
 use Rattle.std.proofs.lemmas.Bool.Decides.{nat_tests}
 use Rattle.gob_tree.specs.declared.graph.Edge.{Edge}
-use Rattle.state_dom.specs.StateValue.{StateValue, join_of, room_of}
-use Rattle.constraint_sys.specs.Contribution.{edges_into, joined, outcome_of}
-use Rattle.constraint_sys.specs.Sound.{HasShape}
+use Rattle.state_dom.specs.StateValue.{join_of, room_of}
+use Rattle.constraint_sys.specs.Contribution.{joined, outcome_of}
 use Rattle.constraint_sys.specs.Table.{slots_at, state_at}
 use Rattle.constraint_sys.proofs.Ordered.{drop_read}
-use Rattle.constraint_sys.proofs.Rooms.{room_of-shaped}
-use Rattle.constraint_sys.proofs.Shaping.{HasShape-state_at, joined-shaped, transfer-shaped}
+use Rattle.constraint_sys.proofs.Shaping.{HasShape-state_at, joined-shaped, room_of-shaped, transfer-shaped}
 use Rattle.constraint_sys.proofs.edges.joined.Goals as goal
 
 pub join_into-requires : goal.join_into-requires

@@ -2,7 +2,7 @@ use Rattle.std.proofs.Common.{subst}
 use Rattle.constraint_sys.specs.declared.unknown.Unknown.{Unknown}
 use Rattle.constraint_sys.specs.Sound.{CanTurn}
 use Rattle.constraint_sys.proofs.Rooms.{function_within}
-use Rattle.constraint_sys.proofs.edges.contribution.Goals as goal
+use Rattle.constraint_sys.proofs.edges.contribution_to.Goals as goal
 
 pub of_point-requires-clause-in_range : goal.of_point-requires-clause-in_range
 of_point-requires-clause-in_range c =
