@@ -1,0 +1,5 @@
+pub mod Kinds
+pub mod Known
+pub mod Standing
+pub mod Steps
+pub mod Turn

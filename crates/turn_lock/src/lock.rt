@@ -1,0 +1,178 @@
+ghost use Rattle.std.specs.Prelude.{◌≡◌, ◌⊎◌, ◌+◌, ◌<◌, ◌≤◌, ◌^◌, length, IfOk, [], ◌∷◌, ◌++◌, Some, None, true, false};
+ghost use mathlib.Core.List.{IsPrefix};
+ghost use Rattle.turn_lock.specs.declared.logged.Role.TheVariants as Role;
+ghost use Rattle.turn_lock.specs.declared.view.Place.TheVariants as Place;
+ghost use Rattle.turn_lock.specs.Turn.{moved, grown, ticket_of};
+ghost use Rattle.turn_lock.specs.Steps.{Comes};
+
+use crate::logged::Logged;
+use crate::pass::Pass;
+use crate::plays::{Add, Come, Draw, Leave, Look};
+use crate::view::{Turns, View};
+use atomic_table::{Seat, Table};
+use gob_tree::Memory;
+use std::alloc::Global;
+use std::marker::Model;
+use std::snapshot::Snapshot;
+use std::sync::Wait;
+
+/// A value whose turn was taken.
+#[derive(Drop)]
+pub struct Held<B> {
+    pub value: B,
+}
+
+/// A value that passes take in turns, in the order in which they came for it.
+#[derive(Drop)]
+pub struct TurnLock<B: Logged> {
+    table: Table<Option<B>, View<B::Entry>, Snapshot<B>, Turns<B>, Global>,
+}
+
+impl<B: Logged> Model for TurnLock<B> {
+    ghost use Rattle.std.specs.Prelude.{◌≡◌};
+    ghost use Rattle.turn_lock.specs.Known.{Lock};
+
+    ghost Value = { Lock };
+
+    ghost view = { λ l. record { table = l.table.shared.table_id; terms = B.terms_of l.table.shared.key.value } };
+
+    ghost invariant = { λ l. (l.table.shared.table_id.words ≡ 3) × (l.table.shared.table_id.slots ≡ 1) };
+}
+
+// the words of the table
+const NEXT: usize = 0;
+
+const SERVING: usize = 1;
+
+const COUNT: usize = 2;
+
+impl<B: Logged + Drop> TurnLock<B> {
+    /// A lock round the value, and the opener's pass, which has seen the value's entries. `Memory`
+    /// is want of memory, and then the value is dropped.
+    pub fn new(alloc: Global, value: B) -> Result<(TurnLock<B>, Pass<B>), Memory>
+        ensures terms { IfOk result (λ r. r.0.terms ≡ B.terms_of value) }
+        ensures own { IfOk result (λ r. r.1.lock ≡ r.0) }
+        ensures role { IfOk result (λ r. r.1.role ≡ Role.Opener) }
+        ensures seen { IfOk result (λ r. r.1.seen ≡ B.log value) }
+        ensures least { IfOk result (λ r. r.1.least ≡ length r.1.seen) }
+        ensures bare { IfOk result (λ r. (r.1.mine ≡ []) × (r.1.looks ≡ []) × (r.1.turn ≡ false)) }
+    {
+        let key = Snapshot::of(&value);
+        let count = value.entries();
+        let mut slots = Vec::new(alloc);
+        if slots.push(Some(value)).is_err() {
+            return Err(Memory);
+        }
+        match Table::new(alloc, &[0, 0, count], slots, &key) {
+            Ok((table, seat)) => Ok((TurnLock { table }, Pass { seat, count })),
+            Err(_) => Err(Memory),
+        }
+    }
+
+    /// Waits for the turn, and takes the value. No other pass has the turn until it is given back,
+    /// so one that is never given back is kept for good. Once 2^64 - 1 turns were asked for, the call
+    /// waits for ever.
+    pub fn take<R: Wait>(&self, rt: &R, pass: &mut Pass<B>) -> Held<B>
+        requires own { pass.old.lock ≡ self.now }
+        requires outside { pass.old.turn ≡ false }
+        ensures turn { pass.new.turn ≡ true }
+        ensures seen { pass.new.seen ≡ B.log result.value }
+        ensures later { IsPrefix pass.old.seen pass.new.seen }
+        ensures look { pass.new.looks ≡ pass.old.looks ++ length pass.new.seen ∷ [] }
+        ensures terms { B.terms_of result.value ≡ self.now.terms }
+        ensures least { pass.old.least ≤ length pass.new.seen }
+        ensures counted { pass.new.least ≡ length pass.new.seen }
+        ensures same { (pass.new.lock ≡ pass.old.lock) × (pass.new.role ≡ pass.old.role) × (pass.new.mine ≡ pass.old.mine) }
+    {
+        let ticket = self.draw(rt, &mut pass.seat);
+        self.wait(rt, &mut pass.seat, ticket);
+        let value = self.table.shared.exchange(&mut pass.seat, 0, None).unwrap();
+        pass.count = value.entries();
+        Held { value }
+    }
+
+    /// Gives the value back, and the turn to the next ticket.
+    pub fn give(&self, pass: &mut Pass<B>, held: Held<B>)
+        requires own { pass.old.lock ≡ self.now }
+        requires inside { pass.old.turn ≡ true }
+        requires terms { B.terms_of held.value ≡ self.now.terms }
+        requires entries { (B.log held.value ≡ pass.old.seen) ⊎ ((e : B.Entry) × (B.log held.value ≡ pass.old.seen ++ e ∷ [])) }
+        ensures turn { pass.new.turn ≡ false }
+        ensures seen { pass.new.seen ≡ B.log held.value }
+        ensures counted { pass.new.least ≡ length pass.new.seen }
+        ensures kept { B.log held.value ≡ pass.old.seen → pass.new.mine ≡ pass.old.mine }
+        ensures added { (e : B.Entry) → B.log held.value ≡ pass.old.seen ++ e ∷ [] → pass.new.mine ≡ pass.old.mine ++ length pass.old.seen ∷ [] }
+        ensures same { (pass.new.lock ≡ pass.old.lock) × (pass.new.role ≡ pass.old.role) × (pass.new.looks ≡ pass.old.looks) }
+    {
+        let Held { value } = held;
+        let before = pass.count;
+        let count = value.entries();
+        self.table.shared.exchange(&mut pass.seat, 0, Some(value));
+        pass.count = count;
+        if count == before {
+            self.leave(&mut pass.seat);
+            return;
+        }
+        self.add(&mut pass.seat);
+        self.leave(&mut pass.seat);
+        self.table.shared.wake_all(COUNT);
+    }
+
+    fn draw<R: Wait>(&self, rt: &R, seat: &mut Seat<Option<B>, View<B::Entry>>) -> u64
+        requires own { seat.old.table_id ≡ self.now.table }
+        requires outside { seat.old.me.0.place ≡ Place.Outside }
+        ensures same { (seat.new.table_id ≡ seat.old.table_id) × (seat.new.id ≡ seat.old.id) }
+        ensures ticket { seat.new.me ≡ (moved seat.old.me.0 (Place.Waiting result), seat.old.me.1) }
+    {
+        let shared = &self.table.shared;
+        for _ in rt.forever() {
+            let next = shared.load::<Look>(seat, NEXT);
+            if next == u64::MAX {
+                shared.park(rt, NEXT, u32::MAX);
+            } else if shared.compare_exchange::<Draw>(seat, NEXT, next, next + 1) == next {
+                return next;
+            }
+        }
+        unreachable!()
+    }
+
+    fn wait<R: Wait>(&self, rt: &R, seat: &mut Seat<Option<B>, View<B::Entry>>, ticket: u64)
+        requires own { seat.old.table_id ≡ self.now.table }
+        requires ticket { seat.old.me.0.place ≡ Place.Waiting ticket }
+        ensures same { (seat.new.table_id ≡ seat.old.table_id) × (seat.new.id ≡ seat.old.id) }
+        ensures turn { (b : B) × Comes B.log B.terms_of seat.old.me seat.new.me b }
+    {
+        let shared = &self.table.shared;
+        for _ in rt.forever() {
+            let serving = shared.load::<Come>(seat, SERVING);
+            if serving == ticket {
+                return;
+            }
+            shared.park(rt, SERVING, (serving % 4_294_967_296) as u32);
+        }
+        unreachable!()
+    }
+
+    // counts the one entry that the value in the slot has more
+    fn add(&self, seat: &mut Seat<Option<B>, View<B::Entry>>)
+        requires own { seat.old.table_id ≡ self.now.table }
+        requires inside { seat.old.me.0.place ≡ Place.Inside (ticket_of seat.old.me.0.place) }
+        requires one { (b : B) × (e : B.Entry) × (seat.old.me.1 ≡ (0, Some b) ∷ []) × (B.log b ≡ seat.old.me.0.seen ++ e ∷ []) × (length (B.log b) < 2 ^ 64) }
+        ensures same { (seat.new.table_id ≡ seat.old.table_id) × (seat.new.id ≡ seat.old.id) }
+        ensures seen { (b : B) → seat.old.me.1 ≡ (0, Some b) ∷ [] → seat.new.me ≡ (grown seat.old.me.0 (B.log b), seat.old.me.1) }
+    {
+        self.table.shared.fetch_add::<Add>(seat, COUNT, 1);
+    }
+
+    // puts the slot back, and serves the next ticket
+    fn leave(&self, seat: &mut Seat<Option<B>, View<B::Entry>>)
+        requires own { seat.old.table_id ≡ self.now.table }
+        requires inside { seat.old.me.0.place ≡ Place.Inside (ticket_of seat.old.me.0.place) }
+        requires known { (b : B) × (seat.old.me.1 ≡ (0, Some b) ∷ []) × (B.log b ≡ seat.old.me.0.seen) × (B.terms_of b ≡ seat.old.me.0.terms) }
+        ensures same { (seat.new.table_id ≡ seat.old.table_id) × (seat.new.id ≡ seat.old.id) }
+        ensures outside { seat.new.me ≡ (moved seat.old.me.0 Place.Outside, []) }
+    {
+        self.table.shared.fetch_add::<Leave>(seat, SERVING, 1);
+        self.table.shared.wake_all(SERVING);
+    }
+}
