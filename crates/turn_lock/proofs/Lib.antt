@@ -1,3 +1,6 @@
+pub mod Owning
+pub mod Places
 pub mod Prefixes
+pub mod Sound
 pub mod Steps
 pub mod Views

@@ -1,5 +1,5 @@
 -- Beginnings of one list.
-use Rattle.std.proofs.Common.{◌≡◌, ℕ, zero, suc, ◌≤◌, List, [], ◌∷◌, ◌++◌, length, refl, ap, sym, ◌∙◌, subst, append-nil, arith, append_assoc, length-append}
+use Rattle.std.proofs.Common.{◌≡◌, ℕ, zero, suc, ◌≤◌, List, [], ◌∷◌, ◌++◌, length, Some, slice_get, refl, ap, sym, ◌∙◌, subst, append-nil, arith, append_assoc, length-append}
 use mathlib.Core.List.{IsPrefix}
 
 pub prefix_self : {A : Type 0} (xs : List A) → IsPrefix xs xs
@@ -14,3 +14,10 @@ prefix_length xs ys p = omega (arith, sym (ap length p.1) ∙ length-append xs p
 -- a list that goes on by one element still has the beginning
 pub prefix_longer : {A : Type 0} (xs ys zs : List A) (e : A) → zs ≡ ys ++ e ∷ [] → IsPrefix xs ys → IsPrefix xs zs
 prefix_longer xs ys zs e is p = subst (IsPrefix xs) (sym is) (prefix_trans xs ys (ys ++ e ∷ []) p (e ∷ [], refl))
+
+-- what stands in a beginning stands in the whole, at the same place
+pub prefix_get : {A : Type 0} (xs ys : List A) (k : ℕ) (x : A) → IsPrefix xs ys → slice_get xs k ≡ Some x → slice_get ys k ≡ Some x
+prefix_get [] ys k x p h = absurd cc
+prefix_get (y ∷ xs) [] k x p h = absurd (cc (p.1))
+prefix_get (y ∷ xs) (z ∷ ys) zero x p h = cc (p.1, h)
+prefix_get (y ∷ xs) (z ∷ ys) (suc k) x p h = prefix_get xs ys k x (p.0, cc (p.1)) h

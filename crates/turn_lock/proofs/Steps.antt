@@ -1,5 +1,5 @@
 -- Each step of take and give keeps the rule.
-use Rattle.std.proofs.Common.{◌≡◌, ◌≢◌, ◌⊎◌, ℕ, zero, suc, eqb, ◌+◌, ◌%◌, ◌^◌, ◌<◌, ◌≤◌, List, [], ◌∷◌, ◌++◌, length, get_or, set, Bool, true, false, true≢false, Option, Some, None, sym, refl, ap, ◌∙◌, subst, inl, inr, ⊎_elim, eq-eqb, ne_eqb, length-append, arith}
+use Rattle.std.proofs.Common.{◌≡◌, ◌≢◌, ◌⊎◌, ℕ, zero, suc, eqb, ◌+◌, ◌%◌, ◌^◌, ◌<◌, List, [], ◌∷◌, ◌++◌, length, get_or, set, Bool, true, false, true≢false, Option, Some, sym, refl, ap, ◌∙◌, subst, inl, inr, ⊎_elim, eq-eqb, ne_eqb, length-append, arith}
 use Rattle.std.proofs.Math.Nat.{mod-eq_of_lt}
 use mathlib.Core.Logic.{dite}
 use mathlib.Core.Option.{some, none, some-injective, some-ne-none}
@@ -8,16 +8,18 @@ use native.Mathlib.Decide.{ℕ_discrete}
 use lib.ListN.{get_elem?}
 use lib.Seq.{set-get_or}
 use prog.Atomic.{either}
-use Rattle.atomic_table.specs.Table.{State, Me, Step, step, keeps, takes, gives, stepped, Allows, opening}
+use Rattle.atomic_table.specs.Table.{State, Me, step, keeps, takes, gives, stepped, Allows, opening}
 use Rattle.atomic_table.proofs.Lists.{set_again, set_else}
-use Rattle.turn_lock.specs.declared.view.Place.TheVariants.{Outside, Waiting, Inside}
+use Rattle.turn_lock.specs.declared.view.Place.TheVariants.{Outside, Waiting}
 use Rattle.turn_lock.specs.declared.view.View.{View}
-use Rattle.turn_lock.specs.Turn.{is_drawn, ticket_of, has_turn, is_spent, opener_view, moved, entered, grown, Knows, Home, Away, Turned}
+use Rattle.turn_lock.specs.Kinds.{Kind, OwnsSubjects, MayAdd}
+use Rattle.turn_lock.specs.Turn.{is_drawn, ticket_of, has_turn, is_spent, opener_view, moved, entered, grown, Knows, Home, Away, Owned, Turned}
 use Rattle.turn_lock.specs.Steps.{looked, drew, left, added, Comes, came}
-use Rattle.turn_lock.proofs.Prefixes.{prefix_self, prefix_longer, prefix_length}
+use Rattle.turn_lock.proofs.Owning.{kept, added as owned_added, arrived, nobody}
+use Rattle.turn_lock.proofs.Prefixes.{prefix_self, prefix_longer}
 use Rattle.turn_lock.proofs.Views.{false_of_not, drawn_of_turn, set_there, all_views, one_view, apart_set}
 
-module _ {B E : Type 0} (log : B → List E) (terms_of : B → ℕ) (terms : ℕ) where
+module _ {B E : Type 0} (kind : E → Kind) (log : B → List E) (terms_of : B → ℕ) (terms : ℕ) where
   abbrev V : Type 0
   V = View E
 
@@ -28,7 +30,7 @@ module _ {B E : Type 0} (log : B → List E) (terms_of : B → ℕ) (terms : ℕ
   M = Me (Option B) V
 
   abbrev Rule : St → Type 0
-  Rule = Turned log terms_of terms
+  Rule = Turned kind log terms_of terms
 
   abbrev Slot : List E → St → Type 0
   Slot history s = Home log terms_of terms history s ⊎ Away log terms_of terms s
@@ -89,6 +91,7 @@ module _ {B E : Type 0} (log : B → List E) (terms_of : B → ℕ) (terms : ℕ
               (λ j z _ p. let l = r.each j z p in record { terms = l.terms; within = λ d. let t = l.within d in (t.0, omega arith); turn = l.turn; saw = l.saw; least = l.least });
           apart = apart_set s.views id w r.apart (λ j z _ p d _ e. let t = (r.each j z p).within d in let g : x ≡ ticket_of z.place = e in omega arith);
           slot = quiet s r.history id v w (set s.words 0 new) at off refl r.slot;
+          owned = kept kind r.history s.views id v w at refl r.owned;
         },
         ((λ _. refl), λ miss. absurd (miss hit)),
       ))
@@ -102,7 +105,7 @@ module _ {B E : Type 0} (log : B → List E) (terms_of : B → ℕ) (terms : ℕ
 
   -- the ticket that is served has come: whoever has it may take the slot
   enters : (slots id ticket : ℕ) (me : M) → me.0.place ≡ Waiting ticket → (s : St) (r : Rule s) → get_elem? s.views id ≡ some me.0 → get_or s.words 1 0 ≡ ticket → (h : Home log terms_of terms r.history s)
-      → (w : V) × (Rule (stepped s 1 (get_or s.words 1 0) id me.1 w (takes 0 (Some h.value)))) × Comes log terms_of me (w, (0, Some h.value) ∷ me.1) h.value
+      → (w : V) × (Rule (stepped s 1 (get_or s.words 1 0) id me.1 w (takes 0 (Some h.value)))) × Comes kind log terms_of me (w, (0, Some h.value) ∷ me.1) h.value
   enters slots id ticket me waits s r at hit h =
       let v : V = me.0 in let x : ℕ = get_or s.words 1 0 in let now : x ≡ r.serving = ap (λ ws. get_or ws 1 0) r.words in let k = r.each id v at in let b : B = h.value in
       let t : ticket_of v.place ≡ ticket = ap ticket_of waits in
@@ -123,12 +126,14 @@ module _ {B E : Type 0} (log : B → List E) (terms_of : B → ℕ) (terms : ℕ
               (λ j z _ p. r.each j z p);
           apart = apart_set s.views id w r.apart (λ j z ne p d _ e. other_ticket s r id j v z at p drawn ne d e);
           slot = inr record { homes = ap (λ hs. set hs 0 none) h.homes; id = id; view = w; at = set_there s.views id w v at; turn = refl };
+          owned = kept kind r.history s.views id v w at refl r.owned;
         },
         record {
           me = refl;
           later = subst (IsPrefix v.seen) (sym h.entries) k.saw;
           terms = h.same_terms ∙ sym (k.terms live);
           least = omega (arith, ap length h.entries, k.least);
+          subjects = subst (λ (xs : List E). OwnsSubjects kind xs v.mine) (sym h.entries) (r.owned.whole id v at);
         },
       )
 
@@ -141,7 +146,7 @@ module _ {B E : Type 0} (log : B → List E) (terms_of : B → ℕ) (terms : ℕ
       let one : v ≡ a.view = one_view s.views id a.id v a.view at a.at same in
       true≢false (sym a.turn ∙ (ap (λ (z : V). has_turn z.place) (sym one) ∙ ap has_turn waits))
 
-  pub comes : (slots id ticket : ℕ) (me : M) → me.0.place ≡ Waiting ticket → Allows Rule slots id me 1 (λ n. n) (came log terms_of (step slots 1 0 0 none) me)
+  pub comes : (slots id ticket : ℕ) (me : M) → me.0.place ≡ Waiting ticket → Allows Rule slots id me 1 (λ n. n) (came kind log terms_of (step slots 1 0 0 none) me)
   comes slots id ticket me waits s r _ at _ = let v : V = me.0 in let x : ℕ = get_or s.words 1 0 in let t : ticket_of v.place ≡ ticket = ap ticket_of waits in dite (ℕ_discrete x ticket)
       (λ hit. ⊎_elim
       (λ (h : Home log terms_of terms r.history s). let e = enters slots id ticket me waits s r at hit h in (
@@ -155,9 +160,9 @@ module _ {B E : Type 0} (log : B → List E) (terms_of : B → ℕ) (terms : ℕ
       r.slot)
       (λ miss. (v, keeps, tt, same_state s 1 id me.1 v at r, ((λ hit. absurd (miss (hit ∙ t))), λ _. refl)))
 
-  pub adds : (slots id : ℕ) (v : V) (b : B) (e : E) → has_turn v.place ≡ true → log b ≡ v.seen ++ e ∷ [] → length (log b) < 2 ^ 64
+  pub adds : (slots id : ℕ) (v : V) (b : B) (e : E) → has_turn v.place ≡ true → log b ≡ v.seen ++ e ∷ [] → length (log b) < 2 ^ 64 → MayAdd kind v.role v.seen v.mine e
       → Allows Rule slots id (v, (0, Some b) ∷ []) 2 (λ n. (n + 1) % 2 ^ 64) (added log (step slots 2 1 0 none) (v, (0, Some b) ∷ []))
-  adds slots id v b e on is small s r _ at _ = let w : V = grown v (log b) in let x : ℕ = get_or s.words 2 0 in
+  adds slots id v b e on is small may s r _ at _ = let w : V = grown v (log b) in let x : ℕ = get_or s.words 2 0 in
       let now : x ≡ length r.history = ap (λ ws. get_or ws 2 0) r.words in
       let k = r.each id v at in
       let mine = k.turn on in
@@ -187,12 +192,14 @@ module _ {B E : Type 0} (log : B → List E) (terms_of : B → ℕ) (terms : ℕ
               });
           apart = apart_set s.views id w r.apart (λ j z ne p d _ e. other_ticket s r id j v z at p drawn ne d e);
           slot = inr record { homes = away s r.history id v at on r.slot; id = id; view = w; at = set_there s.views id w v at; turn = on };
+          owned = subst (λ (xs : List E). Owned kind xs (set s.views id w)) (sym longer)
+              (owned_added kind r.history s.views id v w e at (ap (λ (xs : List E). v.mine ++ length xs ∷ []) mine.1) (subst (λ (xs : List E). MayAdd kind v.role xs v.mine e) mine.1 may) r.owned);
         },
         refl,
       )
 
   pub leaves : (slots id : ℕ) (v : V) (b : B) → has_turn v.place ≡ true → is_spent v.place ≡ false → log b ≡ v.seen → terms_of b ≡ v.terms
-      → Allows Rule slots id (v, (0, Some b) ∷ []) 1 (λ n. (n + 1) % 2 ^ 64) (left (step slots 1 1 0 none) (v, (0, Some b) ∷ []))
+      → Allows Rule slots id (v, (0, Some b) ∷ []) 1 (λ n. (n + 1) % 2 ^ 64) (left kind (step slots 1 1 0 none) (v, (0, Some b) ∷ []))
   leaves slots id v b on live is lim s r _ at _ = let w : V = moved v Outside in let x : ℕ = get_or s.words 1 0 in
       let now : x ≡ r.serving = ap (λ ws. get_or ws 1 0) r.words in
       let k = r.each id v at in
@@ -232,8 +239,9 @@ module _ {B E : Type 0} (log : B → List E) (terms_of : B → ℕ) (terms : ℕ
             nobody = all_views (λ (z : V). has_turn z.place ≡ false) s.views id w refl
                 (λ j z ne p. false_of_not (has_turn z.place) (λ o. let t = (r.each j z p).turn o in other_ticket s r id j v z at p drawn ne (drawn_of_turn z.place o) (same ∙ sym t.0)));
           };
+          owned = kept kind r.history s.views id v w at refl r.owned;
         },
-        refl,
+        (refl, subst (λ (xs : List E). OwnsSubjects kind xs v.mine) (sym mine.1) (r.owned.whole id v at)),
       )
 
   only : (v w : V) (j : ℕ) → get_elem? (v ∷ []) j ≡ some w → (j ≡ 0) × (v ≡ w)
@@ -258,4 +266,5 @@ module _ {B E : Type 0} (log : B → List E) (terms_of : B → ℕ) (terms : ℕ
     };
     apart = λ i j x y p q _ _ _. (only v x i p).0 ∙ sym (only v y j q).0;
     slot = inl record { value = b; homes = refl; entries = refl; same_terms = lim; nobody = λ j w e. subst (λ (z : V). has_turn z.place ≡ false) (only v w j e).1 refl };
+    owned = arrived kind (log b) [] v refl (nobody kind (log b));
   }

@@ -4,6 +4,7 @@ use mathlib.Core.List.{IsPrefix}
 use Rattle.atomic_table.specs.Table.{Me, Step, rest}
 use Rattle.turn_lock.specs.declared.view.Place.TheVariants.{Outside, Waiting}
 use Rattle.turn_lock.specs.declared.view.View.{View}
+use Rattle.turn_lock.specs.Kinds.{Kind, OwnsSubjects}
 use Rattle.turn_lock.specs.Turn.{ticket_of, moved, entered, grown}
 
 module _ {B E : Type 0} where
@@ -15,9 +16,9 @@ module _ {B E : Type 0} where
   abbrev pub drew : Step (Option B) → Me (Option B) (View E) → ℕ → Me (Option B) (View E) → Type 0
   drew st m n m' = (n ≡ st.first → m' ≡ (moved m.0 (Waiting n), m.1)) × (n ≢ st.first → m' ≡ m)
 
-  -- the value is served again: the ticket and the slot are given up
-  abbrev pub left : Step (Option B) → Me (Option B) (View E) → ℕ → Me (Option B) (View E) → Type 0
-  left st m n m' = m' ≡ (moved m.0 Outside, rest m.1)
+  -- the ticket and the slot are given up; the entries about what the pass began were its own
+  abbrev pub left : (E → Kind) → Step (Option B) → Me (Option B) (View E) → ℕ → Me (Option B) (View E) → Type 0
+  left kind st m n m' = (m' ≡ (moved m.0 Outside, rest m.1)) × OwnsSubjects kind m.0.seen m.0.mine
 
   -- the entries of the value in the slot in hand
   abbrev pub entries_of : (B → List E) → Option B → List E
@@ -33,12 +34,13 @@ module _ {B E : Type 0} where
   added log st m n m' = m' ≡ (grown m.0 (entries_in log m.1), m.1)
 
   -- the turn has come with the value b
-  pub record Comes (log : B → List E) (terms_of : B → ℕ) (m m' : Me (Option B) (View E)) (b : B) : Type 0 where
+  pub record Comes (kind : E → Kind) (log : B → List E) (terms_of : B → ℕ) (m m' : Me (Option B) (View E)) (b : B) : Type 0 where
     pub me : m' ≡ (entered m.0 (ticket_of m.0.place) (log b), (0, Some b) ∷ m.1)
     pub later : IsPrefix m.0.seen (log b)
     pub terms : terms_of b ≡ m.0.terms
     pub least : m.0.least ≤ length (log b)
+    pub subjects : OwnsSubjects kind (log b) m.0.mine
 
   -- the turn has come where the ticket is served
-  abbrev pub came : (B → List E) → (B → ℕ) → Step (Option B) → Me (Option B) (View E) → ℕ → Me (Option B) (View E) → Type 0
-  came log terms_of st m n m' = (n ≡ ticket_of m.0.place → (b : B) × Comes log terms_of m m' b) × (n ≢ ticket_of m.0.place → m' ≡ m)
+  abbrev pub came : (E → Kind) → (B → List E) → (B → ℕ) → Step (Option B) → Me (Option B) (View E) → ℕ → Me (Option B) (View E) → Type 0
+  came kind log terms_of st m n m' = (n ≡ ticket_of m.0.place → (b : B) × Comes kind log terms_of m m' b) × (n ≢ ticket_of m.0.place → m' ≡ m)

@@ -1,5 +1,5 @@
 -- The rule of the table: who waits, who has the turn, and what each pass has seen.
-use Rattle.std.specs.Prelude.{◌≡◌, ◌⊎◌, ℕ, ◌+◌, ◌^◌, ◌<◌, ◌≤◌, List, [], ◌∷◌, ◌++◌, length, Bool, true, false, Option, Some, None}
+use Rattle.std.specs.Prelude.{◌≡◌, ◌⊎◌, ℕ, ◌^◌, ◌<◌, ◌≤◌, List, [], ◌∷◌, ◌++◌, length, Bool, true, false, Option, Some, Contains}
 use mathlib.Core.Option.{some, none}
 use mathlib.Core.List.{IsPrefix}
 use lib.ListN.{get_elem?}
@@ -8,6 +8,7 @@ use Rattle.turn_lock.specs.declared.logged.Role.TheVariants.{Opener}
 use Rattle.turn_lock.specs.declared.view.Place.{Place}
 use Rattle.turn_lock.specs.declared.view.Place.TheVariants.{Outside, Waiting, Inside, Spent}
 use Rattle.turn_lock.specs.declared.view.View.{View}
+use Rattle.turn_lock.specs.Kinds.{Kind, OwnsSubjects}
 
 -- whether a ticket was drawn, which one it is, whether its turn has come, and whether the pass is gone
 abbrev pub is_drawn : Place → Bool
@@ -59,6 +60,12 @@ module _ {E : Type 0} where
     pub saw : IsPrefix v.seen history
     pub least : v.least ≤ length history
 
+-- who owns which entries: a place is among the entries, and one pass's own; whoever began a subject has all entries about it
+pub record Owned {E : Type 0} (kind : E → Kind) (history : List E) (views : List (View E)) : Type 0 where
+  pub below : (j : ℕ) (v : View E) → get_elem? views j ≡ some v → (k : ℕ) → Contains v.mine k → k < length history
+  pub alone : (i j : ℕ) (v w : View E) → get_elem? views i ≡ some v → get_elem? views j ≡ some w → (k : ℕ) → Contains v.mine k → Contains w.mine k → i ≡ j
+  pub whole : (j : ℕ) (v : View E) → get_elem? views j ≡ some v → OwnsSubjects kind history v.mine
+
 module _ {B E : Type 0} (log : B → List E) (terms_of : B → ℕ) (terms : ℕ) where
   -- the value is at home, its entries are the history, and nobody has the turn
   pub record Home (history : List E) (s : State (Option B) (View E)) : Type 0 where
@@ -76,6 +83,7 @@ module _ {B E : Type 0} (log : B → List E) (terms_of : B → ℕ) (terms : ℕ
     pub at : get_elem? s.views id ≡ some view
     pub turn : has_turn view.place ≡ true
 
+module _ {B E : Type 0} (kind : E → Kind) (log : B → List E) (terms_of : B → ℕ) (terms : ℕ) where
   pub record Turned (s : State (Option B) (View E)) : Type 0 where
     pub next : ℕ
     pub serving : ℕ
@@ -86,4 +94,5 @@ module _ {B E : Type 0} (log : B → List E) (terms_of : B → ℕ) (terms : ℕ
     pub each : (j : ℕ) (v : View E) → get_elem? s.views j ≡ some v → Knows terms next serving history v
     -- two passes have two tickets
     pub apart : (i j : ℕ) (v w : View E) → get_elem? s.views i ≡ some v → get_elem? s.views j ≡ some w → is_drawn v.place ≡ true → is_drawn w.place ≡ true → ticket_of v.place ≡ ticket_of w.place → i ≡ j
-    pub slot : Home history s ⊎ Away s
+    pub slot : Home log terms_of terms history s ⊎ Away log terms_of terms s
+    pub owned : Owned kind history s.views

@@ -2,6 +2,8 @@ ghost use Rattle.std.specs.Prelude.{◌≡◌, ◌⊎◌, ◌+◌, ◌<◌, ◌�
 ghost use mathlib.Core.List.{IsPrefix};
 ghost use Rattle.turn_lock.specs.declared.logged.Role.TheVariants as Role;
 ghost use Rattle.turn_lock.specs.declared.view.Place.TheVariants as Place;
+ghost use Rattle.turn_lock.specs.Kinds.{MayAdd, OwnsSubjects};
+ghost use Rattle.turn_lock.specs.Known.{IsSound, MayGive};
 ghost use Rattle.turn_lock.specs.Turn.{moved, grown, ticket_of};
 ghost use Rattle.turn_lock.specs.Steps.{Comes};
 
@@ -55,6 +57,7 @@ impl<B: Logged + Drop> TurnLock<B> {
         ensures role { IfOk result (λ r. r.1.role ≡ Role.Opener) }
         ensures seen { IfOk result (λ r. r.1.seen ≡ B.log value) }
         ensures least { IfOk result (λ r. r.1.least ≡ length r.1.seen) }
+        ensures sound { IfOk result (λ r. IsSound B.kind r.1) }
         ensures bare { IfOk result (λ r. (r.1.mine ≡ []) × (r.1.looks ≡ []) × (r.1.turn ≡ false)) }
     {
         let key = Snapshot::of(&value);
@@ -82,6 +85,7 @@ impl<B: Logged + Drop> TurnLock<B> {
         ensures terms { B.terms_of result.value ≡ self.now.terms }
         ensures least { pass.old.least ≤ length pass.new.seen }
         ensures counted { pass.new.least ≡ length pass.new.seen }
+        ensures sound { IsSound B.kind pass.new }
         ensures same { (pass.new.lock ≡ pass.old.lock) × (pass.new.role ≡ pass.old.role) × (pass.new.mine ≡ pass.old.mine) }
     {
         let ticket = self.draw(rt, &mut pass.seat);
@@ -96,12 +100,13 @@ impl<B: Logged + Drop> TurnLock<B> {
         requires own { pass.old.lock ≡ self.now }
         requires inside { pass.old.turn ≡ true }
         requires terms { B.terms_of held.value ≡ self.now.terms }
-        requires entries { (B.log held.value ≡ pass.old.seen) ⊎ ((e : B.Entry) × (B.log held.value ≡ pass.old.seen ++ e ∷ [])) }
+        requires entries { MayGive B.kind pass.old (B.log held.value) }
         ensures turn { pass.new.turn ≡ false }
         ensures seen { pass.new.seen ≡ B.log held.value }
         ensures counted { pass.new.least ≡ length pass.new.seen }
         ensures kept { B.log held.value ≡ pass.old.seen → pass.new.mine ≡ pass.old.mine }
         ensures added { (e : B.Entry) → B.log held.value ≡ pass.old.seen ++ e ∷ [] → pass.new.mine ≡ pass.old.mine ++ length pass.old.seen ∷ [] }
+        ensures sound { IsSound B.kind pass.new }
         ensures same { (pass.new.lock ≡ pass.old.lock) × (pass.new.role ≡ pass.old.role) × (pass.new.looks ≡ pass.old.looks) }
     {
         let Held { value } = held;
@@ -140,7 +145,7 @@ impl<B: Logged + Drop> TurnLock<B> {
         requires own { seat.old.table_id ≡ self.now.table }
         requires ticket { seat.old.me.0.place ≡ Place.Waiting ticket }
         ensures same { (seat.new.table_id ≡ seat.old.table_id) × (seat.new.id ≡ seat.old.id) }
-        ensures turn { (b : B) × Comes B.log B.terms_of seat.old.me seat.new.me b }
+        ensures turn { (b : B) × Comes B.kind B.log B.terms_of seat.old.me seat.new.me b }
     {
         let shared = &self.table.shared;
         for _ in rt.forever() {
@@ -157,7 +162,7 @@ impl<B: Logged + Drop> TurnLock<B> {
     fn add(&self, seat: &mut Seat<Option<B>, View<B::Entry>>)
         requires own { seat.old.table_id ≡ self.now.table }
         requires inside { seat.old.me.0.place ≡ Place.Inside (ticket_of seat.old.me.0.place) }
-        requires one { (b : B) × (e : B.Entry) × (seat.old.me.1 ≡ (0, Some b) ∷ []) × (B.log b ≡ seat.old.me.0.seen ++ e ∷ []) × (length (B.log b) < 2 ^ 64) }
+        requires one { (b : B) × (e : B.Entry) × (seat.old.me.1 ≡ (0, Some b) ∷ []) × (B.log b ≡ seat.old.me.0.seen ++ e ∷ []) × (length (B.log b) < 2 ^ 64) × MayAdd B.kind seat.old.me.0.role seat.old.me.0.seen seat.old.me.0.mine e }
         ensures same { (seat.new.table_id ≡ seat.old.table_id) × (seat.new.id ≡ seat.old.id) }
         ensures seen { (b : B) → seat.old.me.1 ≡ (0, Some b) ∷ [] → seat.new.me ≡ (grown seat.old.me.0 (B.log b), seat.old.me.1) }
     {
@@ -171,6 +176,7 @@ impl<B: Logged + Drop> TurnLock<B> {
         requires known { (b : B) × (seat.old.me.1 ≡ (0, Some b) ∷ []) × (B.log b ≡ seat.old.me.0.seen) × (B.terms_of b ≡ seat.old.me.0.terms) }
         ensures same { (seat.new.table_id ≡ seat.old.table_id) × (seat.new.id ≡ seat.old.id) }
         ensures outside { seat.new.me ≡ (moved seat.old.me.0 Place.Outside, []) }
+        ensures subjects { OwnsSubjects B.kind seat.old.me.0.seen seat.old.me.0.mine }
     {
         self.table.shared.fetch_add::<Leave>(seat, SERVING, 1);
         self.table.shared.wake_all(SERVING);

@@ -20,5 +20,5 @@ impl<B: Logged> Model for Pass<B> {
 
     ghost view = { λ p. known_of p.seat.table_id p.seat.me.0 };
 
-    ghost invariant = { λ p. IsPass p.count p.seat.me };
+    ghost invariant = { λ p. IsPass B.kind p.count p.seat.table_id p.seat.me };
 }

@@ -23,7 +23,7 @@ impl<B, E> Play<Option<B>, View<E>> for Draw {
 pub(crate) struct Come;
 
 impl<B: Logged> Play<Option<B>, View<B::Entry>> for Come {
-    ghost then = { came B.log B.terms_of };
+    ghost then = { came B.kind B.log B.terms_of };
 }
 
 /// An entry is added.
@@ -36,6 +36,6 @@ impl<B: Logged> Play<Option<B>, View<B::Entry>> for Add {
 /// The turn is given on.
 pub(crate) struct Leave;
 
-impl<B, E> Play<Option<B>, View<E>> for Leave {
-    ghost then = { left };
+impl<B: Logged> Play<Option<B>, View<B::Entry>> for Leave {
+    ghost then = { left B.kind };
 }

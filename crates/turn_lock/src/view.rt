@@ -50,7 +50,7 @@ pub struct Turns<B> {
 impl<B: Logged> TableRule<Option<B>, View<B::Entry>, Snapshot<B>> for Turns<B> {
     ghost use Rattle.turn_lock.specs.Turn.{Turned, opener_view};
 
-    ghost holds = { λ key. Turned B.log B.terms_of (B.terms_of key.value) };
+    ghost holds = { λ key. Turned B.kind B.log B.terms_of (B.terms_of key.value) };
 
     ghost first = { λ key. opener_view (B.terms_of key.value) (B.log key.value) };
 }
