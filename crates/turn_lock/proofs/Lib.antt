@@ -1,4 +1,5 @@
 pub mod Owning
+pub mod Passes
 pub mod Places
 pub mod Prefixes
 pub mod Sound

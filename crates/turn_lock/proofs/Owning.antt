@@ -3,13 +3,16 @@ use Rattle.std.proofs.Common.{◌≡◌, ◌≢◌, ◌⊎◌, ℕ, zero, suc, �
 use Rattle.std.specs.List.{Contains}
 use Rattle.std.proofs.lemmas.List.Elements.{Contains-append_left, Contains-append_right, Contains-append_cases}
 use mathlib.Core.Option.{some, some-ne-none}
+use mathlib.Core.List.{IsPrefix}
 use lib.ListN.{get_elem?}
 use Rattle.atomic_table.proofs.Lists.{at_set, at_snoc}
 use Rattle.turn_lock.specs.declared.logged.Role.{Role}
 use Rattle.turn_lock.specs.declared.view.View.{View}
 use Rattle.turn_lock.specs.Kinds.{Kind, IsAbout, Begins, OwnsSubjects, MayAdd}
 use Rattle.turn_lock.specs.Turn.{Owned}
-use Rattle.turn_lock.proofs.Places.{contains_none, contains_one, one_contains}
+use Rattle.turn_lock.specs.Lists.{merged}
+use Rattle.turn_lock.proofs.Places.{contains_none, contains_one, one_contains, merged_first, merged_second, merged_cases}
+use Rattle.turn_lock.proofs.Prefixes.{prefix_get}
 
 by_bool : {X : Type 0} (b : Bool) → (b ≡ true → X) → (b ≡ false → X) → X
 by_bool true f g = f refl
@@ -136,3 +139,47 @@ module _ {E : Type 0} (kind : E → Kind) where
     alone = λ i j x y p. absurd (some-ne-none x (sym p));
     whole = λ j z p. absurd (some-ne-none z (sym p));
   }
+
+  -- two passes made one
+  pub merged_two : (h : List E) (vs : List (View E)) (id other : ℕ) (v w both gone : View E) → get_elem? vs id ≡ some v → get_elem? vs other ≡ some w → both.mine ≡ merged v.mine w.mine → gone.mine ≡ []
+      → Owned kind h vs → Owned kind h (set (set vs id both) other gone)
+  merged_two h vs id other v w both gone at there all bare o =
+      let either : (k : ℕ) → Contains both.mine k → Contains v.mine k ⊎ Contains w.mine k = (λ k i. merged_cases v.mine w.mine k (subst (λ m. Contains m k) all i)) in
+      let left : (k : ℕ) → Contains v.mine k → Contains both.mine k = (λ k i. subst (λ m. Contains m k) (sym all) (merged_first v.mine w.mine k i)) in
+      let right : (k : ℕ) → Contains w.mine k → Contains both.mine k = (λ k i. subst (λ m. Contains m k) (sym all) (merged_second v.mine w.mine k i)) in
+      let view : (j : ℕ) (z : View E) → get_elem? (set (set vs id both) other gone) j ≡ some z → (k : ℕ) → Contains z.mine k → ((j ≡ id) × (both ≡ z)) ⊎ ((j ≢ id) × (j ≢ other) × (get_elem? vs j ≡ some z)) =
+      (λ j z p k i. ⊎_elim
+          (λ (t : (j ≡ other) × (gone ≡ z)). absurd (contains_none k (subst (λ m. Contains m k) (ap (λ (y : View E). y.mine) (sym t.1) ∙ bare) i)))
+          (λ (t : (j ≢ other) × (get_elem? (set vs id both) j ≡ some z)). ⊎_elim
+              (λ (u : (j ≡ id) × (both ≡ z)). inl u)
+              (λ (u : (j ≢ id) × (get_elem? vs j ≡ some z)). inr (u.0, t.0, u.1))
+              (at_set vs id j both z t.1))
+          (at_set (set vs id both) other j gone z p)) in
+      let apart : (j : ℕ) (z : View E) (k : ℕ) → j ≢ id → j ≢ other → get_elem? vs j ≡ some z → Contains both.mine k → Contains z.mine k → ⊥ =
+      (λ j z k n m p a b. ⊎_elim (λ (c : Contains v.mine k). n (sym (o.alone id j v z at p k c b))) (λ (c : Contains w.mine k). m (sym (o.alone other j w z there p k c b))) (either k a)) in record {
+        below = λ j z p k i. ⊎_elim
+            (λ (t : (j ≡ id) × (both ≡ z)). ⊎_elim (λ (c : Contains v.mine k). o.below id v at k c) (λ (c : Contains w.mine k). o.below other w there k c) (either k (subst (λ (y : View E). Contains y.mine k) (sym t.1) i)))
+            (λ (t : (j ≢ id) × (j ≢ other) × (get_elem? vs j ≡ some z)). o.below j z t.2 k i)
+            (view j z p k i);
+        alone = λ i j x y p q k a b. ⊎_elim
+            (λ (t : (i ≡ id) × (both ≡ x)). ⊎_elim
+                (λ (u : (j ≡ id) × (both ≡ y)). t.0 ∙ sym u.0)
+                (λ (u : (j ≢ id) × (j ≢ other) × (get_elem? vs j ≡ some y)). absurd (apart j y k u.0 u.1 u.2 (subst (λ (z : View E). Contains z.mine k) (sym t.1) a) b))
+                (view j y q k b))
+            (λ (t : (i ≢ id) × (i ≢ other) × (get_elem? vs i ≡ some x)). ⊎_elim
+                (λ (u : (j ≡ id) × (both ≡ y)). absurd (apart i x k t.0 t.1 t.2 (subst (λ (z : View E). Contains z.mine k) (sym u.1) b) a))
+                (λ (u : (j ≢ id) × (j ≢ other) × (get_elem? vs j ≡ some y)). o.alone i j x y t.2 u.2 k a b)
+                (view j y q k b))
+            (view i x p k a);
+        whole = λ j z p r n b k e f i gb be gk fk. ⊎_elim
+            (λ (t : (j ≡ id) × (both ≡ z)). subst (λ (y : View E). Contains y.mine k) t.1 (⊎_elim
+                (λ (c : Contains v.mine b). left k (o.whole id v at r n b k e f c gb be gk fk))
+                (λ (c : Contains w.mine b). right k (o.whole other w there r n b k e f c gb be gk fk))
+                (either b (subst (λ (y : View E). Contains y.mine b) (sym t.1) i))))
+            (λ (t : (j ≢ id) × (j ≢ other) × (get_elem? vs j ≡ some z)). o.whole j z t.2 r n b k e f i gb be gk fk)
+            (view j z p b i);
+      }
+
+  -- what is true of all entries is true of a beginning
+  pub owns_prefix : (h seen : List E) (mine : List ℕ) → IsPrefix seen h → OwnsSubjects kind h mine → OwnsSubjects kind seen mine
+  owns_prefix h seen mine p own r n b k e f i gb be gk fk = own r n b k e f i (prefix_get seen h b e p gb) be (prefix_get seen h k f p gk) fk

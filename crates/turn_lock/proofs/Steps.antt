@@ -11,13 +11,18 @@ use prog.Atomic.{either}
 use Rattle.atomic_table.specs.Table.{State, Me, step, keeps, takes, gives, stepped, Allows, opening}
 use Rattle.atomic_table.proofs.Lists.{set_again, set_else}
 use Rattle.turn_lock.specs.declared.view.Place.TheVariants.{Outside, Waiting}
+use Rattle.turn_lock.specs.declared.view.Record.{Record}
 use Rattle.turn_lock.specs.declared.view.View.{View}
 use Rattle.turn_lock.specs.Kinds.{Kind, OwnsSubjects, MayAdd}
-use Rattle.turn_lock.specs.Turn.{is_drawn, ticket_of, has_turn, is_spent, opener_view, moved, entered, grown, Knows, Home, Away, Owned, Turned}
+use Rattle.turn_lock.specs.Turn.{is_drawn, ticket_of, has_turn, is_spent, opener_view, moved, entered, grown, Joined, Knows, Home, Away, Owned, Turned}
 use Rattle.turn_lock.specs.Steps.{looked, drew, left, added, Comes, came}
 use Rattle.turn_lock.proofs.Owning.{kept, added as owned_added, arrived, nobody}
-use Rattle.turn_lock.proofs.Prefixes.{prefix_self, prefix_longer}
+use Rattle.turn_lock.proofs.Places.{contains_none}
+use Rattle.turn_lock.proofs.Prefixes.{prefix_self, prefix_trans, prefix_longer}
 use Rattle.turn_lock.proofs.Views.{false_of_not, drawn_of_turn, set_there, all_views, one_view, apart_set}
+
+olds_later : {E : Type 0} (a b : Record E) (xs ys : List E) → IsPrefix xs ys → Joined a b xs → Joined a b ys
+olds_later a b xs ys p o = record { first_begins = prefix_trans a.seen xs ys o.first_begins p; second_begins = prefix_trans b.seen xs ys o.second_begins p; apart = o.apart }
 
 module _ {B E : Type 0} (kind : E → Kind) (log : B → List E) (terms_of : B → ℕ) (terms : ℕ) where
   abbrev V : Type 0
@@ -35,7 +40,7 @@ module _ {B E : Type 0} (kind : E → Kind) (log : B → List E) (terms_of : B �
   abbrev Slot : List E → St → Type 0
   Slot history s = Home log terms_of terms history s ⊎ Away log terms_of terms s
 
-  same_state : (s : St) (i id : ℕ) (cs : List (ℕ × Option B)) (v : V) → get_elem? s.views id ≡ some v → Rule s → Rule (stepped s i (get_or s.words i 0) id cs v keeps)
+  pub same_state : (s : St) (i id : ℕ) (cs : List (ℕ × Option B)) (v : V) → get_elem? s.views id ≡ some v → Rule s → Rule (stepped s i (get_or s.words i 0) id cs v keeps)
   same_state s i id cs v at r = subst (λ (p : List ℕ × List V). Rule record { words = p.0; homes = s.homes; views = p.1 }) (λ k. (sym (set-get_or s.words i 0) k, sym (set_again s.views id v at) k)) r
 
   -- another pass has another ticket
@@ -44,7 +49,7 @@ module _ {B E : Type 0} (kind : E → Kind) (log : B → List E) (terms_of : B �
   other_ticket s r id j v w p q dv ne dw e = ne (sym (r.apart id j v w p q dv dw e))
 
   -- a pass without the turn changes its view, and still has no turn
-  quiet : (s : St) (history : List E) (id : ℕ) (v w : V) (ws : List ℕ) → get_elem? s.views id ≡ some v → has_turn v.place ≡ false → has_turn w.place ≡ false → Slot history s
+  pub quiet : (s : St) (history : List E) (id : ℕ) (v w : V) (ws : List ℕ) → get_elem? s.views id ≡ some v → has_turn v.place ≡ false → has_turn w.place ≡ false → Slot history s
       → Slot history record { words = ws; homes = s.homes; views = set s.views id w }
   quiet s history id v w ws at off still slot = ⊎_elim
       (λ (h : Home log terms_of terms history s). inl record {
@@ -87,8 +92,8 @@ module _ {B E : Type 0} (kind : E → Kind) (log : B → List E) (terms_of : B �
           order = omega arith;
           small = small;
           each = all_views (Knows terms new r.serving r.history) s.views id w
-              record { terms = λ _. k.terms live; within = λ _. (omega arith, omega arith); turn = λ (e : false ≡ true). absurd (true≢false (sym e)); saw = k.saw; least = k.least }
-              (λ j z _ p. let l = r.each j z p in record { terms = l.terms; within = λ d. let t = l.within d in (t.0, omega arith); turn = l.turn; saw = l.saw; least = l.least });
+              record { terms = λ _. k.terms live; within = λ _. (omega arith, omega arith); turn = λ (e : false ≡ true). absurd (true≢false (sym e)); saw = k.saw; least = k.least; olds = k.olds }
+              (λ j z _ p. let l = r.each j z p in record { terms = l.terms; within = λ d. let t = l.within d in (t.0, omega arith); turn = l.turn; saw = l.saw; least = l.least; olds = l.olds });
           apart = apart_set s.views id w r.apart (λ j z _ p d _ e. let t = (r.each j z p).within d in let g : x ≡ ticket_of z.place = e in omega arith);
           slot = quiet s r.history id v w (set s.words 0 new) at off refl r.slot;
           owned = kept kind r.history s.views id v w at refl r.owned;
@@ -122,7 +127,7 @@ module _ {B E : Type 0} (kind : E → Kind) (log : B → List E) (terms_of : B �
           order = r.order;
           small = r.small;
           each = all_views (Knows terms r.next r.serving r.history) s.views id w
-              record { terms = λ _. k.terms live; within = λ _. bound; turn = λ _. (t ∙ (sym hit ∙ now), h.entries); saw = subst (λ (xs : List E). IsPrefix (log b) xs) h.entries (prefix_self (log b)); least = omega (arith, ap length h.entries) }
+              record { terms = λ _. k.terms live; within = λ _. bound; turn = λ _. (t ∙ (sym hit ∙ now), h.entries); saw = subst (λ (xs : List E). IsPrefix (log b) xs) h.entries (prefix_self (log b)); least = omega (arith, ap length h.entries); olds = olds_later v.first v.second v.seen (log b) (subst (IsPrefix v.seen) (sym h.entries) k.saw) k.olds }
               (λ j z _ p. r.each j z p);
           apart = apart_set s.views id w r.apart (λ j z ne p d _ e. other_ticket s r id j v z at p drawn ne d e);
           slot = inr record { homes = ap (λ hs. set hs 0 none) h.homes; id = id; view = w; at = set_there s.views id w v at; turn = refl };
@@ -182,13 +187,14 @@ module _ {B E : Type 0} (kind : E → Kind) (log : B → List E) (terms_of : B �
           order = r.order;
           small = r.small;
           each = all_views (Knows terms r.next r.serving (log b)) s.views id w
-              record { terms = k.terms; within = k.within; turn = λ _. (mine.0, refl); saw = prefix_self (log b); least = omega arith }
+              record { terms = k.terms; within = k.within; turn = λ _. (mine.0, refl); saw = prefix_self (log b); least = omega arith; olds = olds_later v.first v.second v.seen (log b) (e ∷ [], sym is) k.olds }
               (λ j z ne p. let l = r.each j z p in let least = l.least in record {
                 terms = l.terms;
                 within = l.within;
                 turn = λ o. let t = l.turn o in absurd (other_ticket s r id j v z at p drawn ne (drawn_of_turn z.place o) (mine.0 ∙ sym t.0));
                 saw = prefix_longer z.seen r.history (log b) e longer l.saw;
                 least = omega arith;
+                olds = l.olds;
               });
           apart = apart_set s.views id w r.apart (λ j z ne p d _ e. other_ticket s r id j v z at p drawn ne d e);
           slot = inr record { homes = away s r.history id v at on r.slot; id = id; view = w; at = set_there s.views id w v at; turn = on };
@@ -222,13 +228,14 @@ module _ {B E : Type 0} (kind : E → Kind) (log : B → List E) (terms_of : B �
           order = omega arith;
           small = r.small;
           each = all_views (Knows terms r.next (r.serving + 1) r.history) s.views id w
-              record { terms = λ _. k.terms live; within = λ (d : false ≡ true). absurd (true≢false (sym d)); turn = λ (d : false ≡ true). absurd (true≢false (sym d)); saw = k.saw; least = k.least }
+              record { terms = λ _. k.terms live; within = λ (d : false ≡ true). absurd (true≢false (sym d)); turn = λ (d : false ≡ true). absurd (true≢false (sym d)); saw = k.saw; least = k.least; olds = k.olds }
               (λ j z ne p. let l = r.each j z p in record {
                 terms = l.terms;
                 within = λ d. let t = l.within d in let other : r.serving ≢ ticket_of z.place = (λ g. other_ticket s r id j v z at p drawn ne d (same ∙ g)) in let low = t.0 in (omega arith, t.1);
                 turn = λ o. let t = l.turn o in absurd (other_ticket s r id j v z at p drawn ne (drawn_of_turn z.place o) (same ∙ sym t.0));
                 saw = l.saw;
                 least = l.least;
+                olds = l.olds;
               });
           apart = apart_set s.views id w r.apart (λ j z ne p d (g : false ≡ true) _. true≢false (sym g));
           slot = inl record {
@@ -263,6 +270,7 @@ module _ {B E : Type 0} (kind : E → Kind) (log : B → List E) (terms_of : B �
       turn = λ (d : false ≡ true). absurd (true≢false (sym d));
       saw = prefix_self (log b);
       least = omega arith;
+      olds = record { first_begins = (log b, refl); second_begins = (log b, refl); apart = λ k c _. contains_none k c };
     };
     apart = λ i j x y p q _ _ _. (only v x i p).0 ∙ sym (only v y j q).0;
     slot = inl record { value = b; homes = refl; entries = refl; same_terms = lim; nobody = λ j w e. subst (λ (z : V). has_turn z.place ≡ false) (only v w j e).1 refl };

@@ -1,11 +1,11 @@
 -- What each step on the table tells.
-use Rattle.std.specs.Prelude.{◌≡◌, ◌≢◌, ℕ, ◌≤◌, List, [], ◌∷◌, length, Option, Some, None}
+use Rattle.std.specs.Prelude.{◌≡◌, ◌≢◌, ℕ, ◌<◌, ◌≤◌, true, List, [], ◌∷◌, length, Option, Some, None}
 use mathlib.Core.List.{IsPrefix}
 use Rattle.atomic_table.specs.Table.{Me, Step, rest}
 use Rattle.turn_lock.specs.declared.view.Place.TheVariants.{Outside, Waiting}
 use Rattle.turn_lock.specs.declared.view.View.{View}
 use Rattle.turn_lock.specs.Kinds.{Kind, OwnsSubjects}
-use Rattle.turn_lock.specs.Turn.{ticket_of, moved, entered, grown}
+use Rattle.turn_lock.specs.Turn.{ticket_of, has_turn, moved, entered, grown, informed, Joined}
 
 module _ {B E : Type 0} where
   -- nothing
@@ -44,3 +44,23 @@ module _ {B E : Type 0} where
   -- the turn has come where the ticket is served
   abbrev pub came : (E → Kind) → (B → List E) → (B → ℕ) → Step (Option B) → Me (Option B) (View E) → ℕ → Me (Option B) (View E) → Type 0
   came kind log terms_of st m n m' = (n ≡ ticket_of m.0.place → (b : B) × Comes kind log terms_of m m' b) × (n ≢ ticket_of m.0.place → m' ≡ m)
+
+  -- the number of entries is found, and noted where it is more than were seen
+  pub record Hears (m m' : Me (Option B) (View E)) (n : ℕ) : Type 0 where
+    pub no_more : n ≤ length m.0.seen → m' ≡ m
+    pub more : length m.0.seen < n → m' ≡ (informed m.0 n, m.1)
+    pub least : m.0.least ≤ n
+    -- whoever has the turn has seen all
+    pub inside : has_turn m.0.place ≡ true → n ≡ length m.0.seen
+
+  abbrev pub heard : Step (Option B) → Me (Option B) (View E) → ℕ → Me (Option B) (View E) → Type 0
+  heard st m n m' = Hears m m' n
+
+  -- a pass that took another in learns what the two had in common
+  pub record Learns (kind : E → Kind) (m m' : Me (Option B) (View E)) : Type 0 where
+    pub same : m' ≡ m
+    pub olds : Joined m.0.first m.0.second m.0.seen
+    pub subjects : OwnsSubjects kind m.0.seen m.0.mine
+
+  abbrev pub learnt : (E → Kind) → Step (Option B) → Me (Option B) (View E) → ℕ → Me (Option B) (View E) → Type 0
+  learnt kind st m n m' = Learns kind m m'

@@ -1,14 +1,17 @@
 -- The rule of the table: who waits, who has the turn, and what each pass has seen.
-use Rattle.std.specs.Prelude.{◌≡◌, ◌⊎◌, ℕ, ◌^◌, ◌<◌, ◌≤◌, List, [], ◌∷◌, ◌++◌, length, Bool, true, false, Option, Some, Contains}
+use Rattle.std.specs.Prelude.{◌≡◌, ◌⊎◌, ℕ, ◌^◌, ◌<◌, ◌≤◌, List, [], ◌∷◌, ◌++◌, length, Bool, true, false, Option, Some, Contains, max}
 use mathlib.Core.Option.{some, none}
 use mathlib.Core.List.{IsPrefix}
 use lib.ListN.{get_elem?}
 use Rattle.atomic_table.specs.Table.{State}
+use Rattle.turn_lock.specs.declared.logged.Role.{Role}
 use Rattle.turn_lock.specs.declared.logged.Role.TheVariants.{Opener}
 use Rattle.turn_lock.specs.declared.view.Place.{Place}
 use Rattle.turn_lock.specs.declared.view.Place.TheVariants.{Outside, Waiting, Inside, Spent}
+use Rattle.turn_lock.specs.declared.view.Record.{Record}
 use Rattle.turn_lock.specs.declared.view.View.{View}
 use Rattle.turn_lock.specs.Kinds.{Kind, OwnsSubjects}
+use Rattle.turn_lock.specs.Lists.{longer, merged}
 
 -- whether a ticket was drawn, which one it is, whether its turn has come, and whether the pass is gone
 abbrev pub is_drawn : Place → Bool
@@ -36,9 +39,12 @@ is_spent (Inside n) = false
 is_spent Spent = true
 
 module _ {E : Type 0} where
+  abbrev pub nothing : Record E
+  nothing = record { seen = []; mine = [] }
+
   -- the view of the first pass
   abbrev pub opener_view : ℕ → List E → View E
-  opener_view terms seen = record { role = Opener; terms = terms; place = Outside; seen = seen; mine = []; looks = []; least = length seen; first = record { seen = []; mine = [] }; second = record { seen = []; mine = [] } }
+  opener_view terms seen = record { role = Opener; terms = terms; place = Outside; seen = seen; mine = []; looks = []; least = length seen; first = nothing; second = nothing }
 
   -- the view at another place
   abbrev pub moved : View E → Place → View E
@@ -52,6 +58,34 @@ module _ {E : Type 0} where
   abbrev pub grown : View E → List E → View E
   grown v xs = record v { seen = xs; mine = v.mine ++ length v.seen ∷ []; least = length xs }
 
+  -- there are at least n entries
+  abbrev pub informed : View E → ℕ → View E
+  informed v n = record v { least = n }
+
+  -- a new pass, with what v has seen
+  abbrev pub twin : Role → View E → View E
+  twin role v = record { role = role; terms = v.terms; place = Outside; seen = v.seen; mine = []; looks = []; least = v.least; first = nothing; second = nothing }
+
+  -- v has taken w in
+  abbrev pub joined : View E → View E → View E
+  joined v w = record v {
+    seen = longer v.seen w.seen;
+    mine = merged v.mine w.mine;
+    least = max v.least w.least;
+    first = record { seen = v.seen; mine = v.mine };
+    second = record { seen = w.seen; mine = w.mine };
+  }
+
+  -- a pass that another took in
+  abbrev pub spent : View E
+  spent = record { role = Opener; terms = 0; place = Spent; seen = []; mine = []; looks = []; least = 0; first = nothing; second = nothing }
+
+  -- two that were made one: what each had seen begins what is seen, and they had no place in common
+  pub record Joined (first second : Record E) (seen : List E) : Type 0 where
+    pub first_begins : IsPrefix first.seen seen
+    pub second_begins : IsPrefix second.seen seen
+    pub apart : (k : ℕ) → Contains first.mine k → Contains second.mine k → ⊥
+
   -- what the rule says of one view
   pub record Knows (bound next serving : ℕ) (history : List E) (v : View E) : Type 0 where
     pub terms : is_spent v.place ≡ false → v.terms ≡ bound
@@ -59,6 +93,7 @@ module _ {E : Type 0} where
     pub turn : has_turn v.place ≡ true → (ticket_of v.place ≡ serving) × (v.seen ≡ history)
     pub saw : IsPrefix v.seen history
     pub least : v.least ≤ length history
+    pub olds : Joined v.first v.second v.seen
 
 -- who owns which entries: a place is among the entries, and one pass's own; whoever began a subject has all entries about it
 pub record Owned {E : Type 0} (kind : E → Kind) (history : List E) (views : List (View E)) : Type 0 where

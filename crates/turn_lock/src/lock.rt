@@ -1,15 +1,18 @@
-ghost use Rattle.std.specs.Prelude.{◌≡◌, ◌⊎◌, ◌+◌, ◌<◌, ◌≤◌, ◌^◌, length, IfOk, [], ◌∷◌, ◌++◌, Some, None, true, false};
+ghost use Rattle.std.specs.Prelude.{◌≡◌, ◌⊎◌, ◌+◌, ◌<◌, ◌≤◌, ◌^◌, length, IfOk, [], ◌∷◌, ◌++◌, Some, None, true, false, Contains, max, ℕ};
 ghost use mathlib.Core.List.{IsPrefix};
-ghost use Rattle.turn_lock.specs.declared.logged.Role.TheVariants as Role;
+ghost use Rattle.turn_lock.specs.declared.logged.Role.TheVariants.{Opener};
 ghost use Rattle.turn_lock.specs.declared.view.Place.TheVariants as Place;
 ghost use Rattle.turn_lock.specs.Kinds.{MayAdd, OwnsSubjects};
 ghost use Rattle.turn_lock.specs.Known.{IsSound, MayGive};
-ghost use Rattle.turn_lock.specs.Turn.{moved, grown, ticket_of};
-ghost use Rattle.turn_lock.specs.Steps.{Comes};
+ghost use Rattle.turn_lock.specs.Lists.{longer, merged};
+ghost use Rattle.turn_lock.specs.Turn.{moved, grown, ticket_of, twin};
+ghost use Rattle.turn_lock.specs.Steps.{Comes, Hears};
 
-use crate::logged::Logged;
+use crate::logged::{Logged, Role};
 use crate::pass::Pass;
-use crate::plays::{Add, Come, Draw, Leave, Look};
+use crate::plays::{
+    Add, Come, Draw, Hear, Learn, Leave, Look, Merge, NewHand, NewOpener, NewWorker,
+};
 use crate::view::{Turns, View};
 use atomic_table::{Seat, Table};
 use gob_tree::Memory;
@@ -54,7 +57,7 @@ impl<B: Logged + Drop> TurnLock<B> {
     pub fn new(alloc: Global, value: B) -> Result<(TurnLock<B>, Pass<B>), Memory>
         ensures terms { IfOk result (λ r. r.0.terms ≡ B.terms_of value) }
         ensures own { IfOk result (λ r. r.1.lock ≡ r.0) }
-        ensures role { IfOk result (λ r. r.1.role ≡ Role.Opener) }
+        ensures role { IfOk result (λ r. r.1.role ≡ Opener) }
         ensures seen { IfOk result (λ r. r.1.seen ≡ B.log value) }
         ensures least { IfOk result (λ r. r.1.least ≡ length r.1.seen) }
         ensures sound { IfOk result (λ r. IsSound B.kind r.1) }
@@ -121,6 +124,87 @@ impl<B: Logged + Drop> TurnLock<B> {
         self.add(&mut pass.seat);
         self.leave(&mut pass.seat);
         self.table.shared.wake_all(COUNT);
+    }
+
+    /// A second pass, of this role, which has seen what this one has and has no entry of its own. A
+    /// pass that isn't the opener's splits only its own role.
+    pub fn split(&self, pass: &mut Pass<B>, role: Role) -> Pass<B>
+        requires own { pass.old.lock ≡ self.now }
+        requires outside { pass.old.turn ≡ false }
+        requires role { (pass.old.role ≡ Opener) ⊎ (role ≡ pass.old.role) }
+        ensures same { pass.new ≡ pass.old }
+        ensures own { result.lock ≡ pass.old.lock }
+        ensures role { result.role ≡ role }
+        ensures seen { result.seen ≡ pass.old.seen }
+        ensures least { result.least ≡ pass.old.least }
+        ensures bare { (result.mine ≡ []) × (result.looks ≡ []) × (result.turn ≡ false) }
+        ensures sound { IsSound B.kind result }
+    {
+        let count = pass.count;
+        let seat = self.part(&mut pass.seat, role);
+        Pass { seat, count }
+    }
+
+    /// Takes another pass in. What is seen then begins with what each of the two had seen, and the
+    /// own places of both are this pass's; they had none in common.
+    pub fn join(&self, pass: &mut Pass<B>, other: Pass<B>)
+        requires own { (pass.old.lock ≡ self.now) × (other.lock ≡ self.now) }
+        requires outside { (pass.old.turn ≡ false) × (other.turn ≡ false) }
+        ensures seen { pass.new.seen ≡ longer pass.old.seen other.seen }
+        ensures first { IsPrefix pass.old.seen pass.new.seen }
+        ensures second { IsPrefix other.seen pass.new.seen }
+        ensures mine { pass.new.mine ≡ merged pass.old.mine other.mine }
+        ensures apart { (k : ℕ) → Contains pass.old.mine k → Contains other.mine k → ⊥ }
+        ensures least { pass.new.least ≡ max pass.old.least other.least }
+        ensures sound { IsSound B.kind pass.new }
+        ensures same { (pass.new.lock ≡ pass.old.lock) × (pass.new.role ≡ pass.old.role) × (pass.new.looks ≡ pass.old.looks) × (pass.new.turn ≡ false) }
+    {
+        let Pass { seat, count } = other;
+        self.table.shared.join_seat::<Merge>(&mut pass.seat, seat);
+        self.table.shared.load::<Learn>(&mut pass.seat, NEXT);
+        pass.count = pass.count.max(count);
+    }
+
+    /// Waits until there are more entries than the pass has seen, which it then knows.
+    pub fn wait_for_more<R: Wait>(&self, rt: &R, pass: &mut Pass<B>)
+        requires own { pass.old.lock ≡ self.now }
+        ensures more { length pass.new.seen < pass.new.least }
+        ensures least { pass.old.least ≤ pass.new.least }
+        ensures same { pass.new ≡ record pass.old { least = pass.new.least } }
+        ensures sound { IsSound B.kind pass.new }
+    {
+        let count = pass.count;
+        self.listen(rt, &mut pass.seat, count);
+    }
+
+    fn part(&self, seat: &mut Seat<Option<B>, View<B::Entry>>, role: Role) -> Seat<Option<B>, View<B::Entry>>
+        requires own { seat.old.table_id ≡ self.now.table }
+        requires outside { seat.old.me.0.place ≡ Place.Outside }
+        ensures same { (seat.new.table_id ≡ seat.old.table_id) × (seat.new.id ≡ seat.old.id) × (seat.new.me ≡ seat.old.me) }
+        ensures other { (result.table_id ≡ seat.old.table_id) × (result.me ≡ (twin role seat.old.me.0, [])) }
+    {
+        match role {
+            Role::Opener => self.table.shared.split_seat::<NewOpener>(seat),
+            Role::Hand => self.table.shared.split_seat::<NewHand>(seat),
+            Role::Worker => self.table.shared.split_seat::<NewWorker>(seat),
+        }
+    }
+
+    fn listen<R: Wait>(&self, rt: &R, seat: &mut Seat<Option<B>, View<B::Entry>>, count: u64)
+        requires own { seat.old.table_id ≡ self.now.table }
+        requires counted { count ≡ length seat.old.me.0.seen }
+        ensures same { (seat.new.table_id ≡ seat.old.table_id) × (seat.new.id ≡ seat.old.id) }
+        ensures heard { (n : ℕ) × (count < n) × Hears seat.old.me seat.new.me n }
+    {
+        let shared = &self.table.shared;
+        for _ in rt.forever() {
+            let found = shared.load::<Hear>(seat, COUNT);
+            if found > count {
+                return;
+            }
+            shared.park(rt, COUNT, (found % 4_294_967_296) as u32);
+        }
+        unreachable!()
     }
 
     fn draw<R: Wait>(&self, rt: &R, seat: &mut Seat<Option<B>, View<B::Entry>>) -> u64
