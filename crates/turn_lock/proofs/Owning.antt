@@ -149,12 +149,12 @@ module _ {E : Type 0} (kind : E → Kind) where
       let right : (k : ℕ) → Contains w.mine k → Contains both.mine k = (λ k i. subst (λ m. Contains m k) (sym all) (merged_second v.mine w.mine k i)) in
       let view : (j : ℕ) (z : View E) → get_elem? (set (set vs id both) other gone) j ≡ some z → (k : ℕ) → Contains z.mine k → ((j ≡ id) × (both ≡ z)) ⊎ ((j ≢ id) × (j ≢ other) × (get_elem? vs j ≡ some z)) =
       (λ j z p k i. ⊎_elim
-          (λ (t : (j ≡ other) × (gone ≡ z)). absurd (contains_none k (subst (λ m. Contains m k) (ap (λ (y : View E). y.mine) (sym t.1) ∙ bare) i)))
-          (λ (t : (j ≢ other) × (get_elem? (set vs id both) j ≡ some z)). ⊎_elim
-              (λ (u : (j ≡ id) × (both ≡ z)). inl u)
-              (λ (u : (j ≢ id) × (get_elem? vs j ≡ some z)). inr (u.0, t.0, u.1))
-              (at_set vs id j both z t.1))
-          (at_set (set vs id both) other j gone z p)) in
+      (λ (t : (j ≡ other) × (gone ≡ z)). absurd (contains_none k (subst (λ m. Contains m k) (ap (λ (y : View E). y.mine) (sym t.1) ∙ bare) i)))
+      (λ (t : (j ≢ other) × (get_elem? (set vs id both) j ≡ some z)). ⊎_elim
+      (λ (u : (j ≡ id) × (both ≡ z)). inl u)
+      (λ (u : (j ≢ id) × (get_elem? vs j ≡ some z)). inr (u.0, t.0, u.1))
+      (at_set vs id j both z t.1))
+      (at_set (set vs id both) other j gone z p)) in
       let apart : (j : ℕ) (z : View E) (k : ℕ) → j ≢ id → j ≢ other → get_elem? vs j ≡ some z → Contains both.mine k → Contains z.mine k → ⊥ =
       (λ j z k n m p a b. ⊎_elim (λ (c : Contains v.mine k). n (sym (o.alone id j v z at p k c b))) (λ (c : Contains w.mine k). m (sym (o.alone other j w z there p k c b))) (either k a)) in record {
         below = λ j z p k i. ⊎_elim
@@ -163,19 +163,19 @@ module _ {E : Type 0} (kind : E → Kind) where
             (view j z p k i);
         alone = λ i j x y p q k a b. ⊎_elim
             (λ (t : (i ≡ id) × (both ≡ x)). ⊎_elim
-                (λ (u : (j ≡ id) × (both ≡ y)). t.0 ∙ sym u.0)
-                (λ (u : (j ≢ id) × (j ≢ other) × (get_elem? vs j ≡ some y)). absurd (apart j y k u.0 u.1 u.2 (subst (λ (z : View E). Contains z.mine k) (sym t.1) a) b))
-                (view j y q k b))
+            (λ (u : (j ≡ id) × (both ≡ y)). t.0 ∙ sym u.0)
+            (λ (u : (j ≢ id) × (j ≢ other) × (get_elem? vs j ≡ some y)). absurd (apart j y k u.0 u.1 u.2 (subst (λ (z : View E). Contains z.mine k) (sym t.1) a) b))
+            (view j y q k b))
             (λ (t : (i ≢ id) × (i ≢ other) × (get_elem? vs i ≡ some x)). ⊎_elim
-                (λ (u : (j ≡ id) × (both ≡ y)). absurd (apart i x k t.0 t.1 t.2 (subst (λ (z : View E). Contains z.mine k) (sym u.1) b) a))
-                (λ (u : (j ≢ id) × (j ≢ other) × (get_elem? vs j ≡ some y)). o.alone i j x y t.2 u.2 k a b)
-                (view j y q k b))
+            (λ (u : (j ≡ id) × (both ≡ y)). absurd (apart i x k t.0 t.1 t.2 (subst (λ (z : View E). Contains z.mine k) (sym u.1) b) a))
+            (λ (u : (j ≢ id) × (j ≢ other) × (get_elem? vs j ≡ some y)). o.alone i j x y t.2 u.2 k a b)
+            (view j y q k b))
             (view i x p k a);
         whole = λ j z p r n b k e f i gb be gk fk. ⊎_elim
             (λ (t : (j ≡ id) × (both ≡ z)). subst (λ (y : View E). Contains y.mine k) t.1 (⊎_elim
-                (λ (c : Contains v.mine b). left k (o.whole id v at r n b k e f c gb be gk fk))
-                (λ (c : Contains w.mine b). right k (o.whole other w there r n b k e f c gb be gk fk))
-                (either b (subst (λ (y : View E). Contains y.mine b) (sym t.1) i))))
+            (λ (c : Contains v.mine b). left k (o.whole id v at r n b k e f c gb be gk fk))
+            (λ (c : Contains w.mine b). right k (o.whole other w there r n b k e f c gb be gk fk))
+            (either b (subst (λ (y : View E). Contains y.mine b) (sym t.1) i))))
             (λ (t : (j ≢ id) × (j ≢ other) × (get_elem? vs j ≡ some z)). o.whole j z t.2 r n b k e f i gb be gk fk)
             (view j z p b i);
       }

@@ -1,5 +1,5 @@
 -- Waiting for more, parting a pass and joining two keep the rule.
-use Rattle.std.proofs.Common.{◌≡◌, ◌≢◌, ◌⊎◌, ℕ, ◌+◌, ◌<◌, ◌≤◌, List, [], ◌∷◌, ◌++◌, length, get_or, set, max, Bool, true, false, true≢false, Option, Some, None, sym, refl, ap, ◌∙◌, subst, inl, inr, ⊎_elim, arith}
+use Rattle.std.proofs.Common.{◌≡◌, ◌≢◌, ℕ, ◌≤◌, List, [], ◌∷◌, ◌++◌, length, get_or, set, max, true, false, true≢false, Option, sym, refl, ap, ◌∙◌, subst, inl, inr, ⊎_elim, arith}
 use mathlib.Core.Option.{some, none}
 use mathlib.Core.Logic.{dite}
 use mathlib.Core.List.{IsPrefix}
@@ -11,15 +11,14 @@ use Rattle.atomic_table.proofs.Lists.{set_again, set_else, at_snoc, at_longer}
 use Rattle.turn_lock.specs.declared.logged.Role.{Role}
 use Rattle.turn_lock.specs.declared.view.Place.TheVariants.{Outside}
 use Rattle.turn_lock.specs.declared.view.View.{View}
-use Rattle.turn_lock.specs.Kinds.{Kind, OwnsSubjects}
-use Rattle.turn_lock.specs.Lists.{longer, merged}
-use Rattle.turn_lock.specs.Turn.{is_drawn, ticket_of, has_turn, is_spent, informed, twin, joined, spent, Joined, Knows, Home, Away, Owned, Turned}
-use Rattle.turn_lock.specs.Steps.{Hears, heard, Learns, learnt}
+use Rattle.turn_lock.specs.Kinds.{Kind}
+use Rattle.turn_lock.specs.Turn.{is_drawn, has_turn, is_spent, informed, twin, joined, spent, Joined, Knows, Home, Away, Turned}
+use Rattle.turn_lock.specs.Steps.{heard, learnt}
 use Rattle.turn_lock.proofs.Owning.{kept, arrived, merged_two, owns_prefix}
 use Rattle.turn_lock.proofs.Places.{contains_none}
 use Rattle.turn_lock.proofs.Prefixes.{longer_begins, longer_first, longer_second}
 use Rattle.turn_lock.proofs.Steps.{same_state, quiet}
-use Rattle.turn_lock.proofs.Views.{false_of_not, set_there, all_views, apart_set}
+use Rattle.turn_lock.proofs.Views.{false_of_not, all_views, apart_set}
 
 module _ {B E : Type 0} (kind : E → Kind) (log : B → List E) (terms_of : B → ℕ) (terms : ℕ) where
   abbrev V : Type 0
@@ -90,9 +89,9 @@ module _ {B E : Type 0} (kind : E → Kind) (log : B → List E) (terms_of : B �
     each = λ j z p. ⊎_elim (λ (q : get_elem? s.views j ≡ some z). r.each j z q) (λ (q : w ≡ z). subst (Knows terms r.next r.serving r.history) q knows) (at_snoc s.views w z j p);
     apart = λ i j x y p q dx dy e. ⊎_elim
         (λ (a : get_elem? s.views i ≡ some x). ⊎_elim
-            (λ (b : get_elem? s.views j ≡ some y). r.apart i j x y a b dx dy e)
-            (λ (b : w ≡ y). absurd (true≢false (sym dy ∙ (ap (λ (z : V). is_drawn z.place) (sym b) ∙ d))))
-            (at_snoc s.views w y j q))
+        (λ (b : get_elem? s.views j ≡ some y). r.apart i j x y a b dx dy e)
+        (λ (b : w ≡ y). absurd (true≢false (sym dy ∙ (ap (λ (z : V). is_drawn z.place) (sym b) ∙ d))))
+        (at_snoc s.views w y j q))
         (λ (a : w ≡ x). absurd (true≢false (sym dx ∙ (ap (λ (z : V). is_drawn z.place) (sym a) ∙ d))))
         (at_snoc s.views w x i p);
     slot = ⊎_elim
@@ -114,7 +113,7 @@ module _ {B E : Type 0} (kind : E → Kind) (log : B → List E) (terms_of : B �
       let w : V = twin role v in
       subst (λ (vs : List V). Rule record { words = s.words; homes = s.homes; views = vs ++ w ∷ [] }) (sym (set_again s.views id v at))
       (enters s r w refl refl refl
-          (outside_view r.next r.serving r.history w (λ _. k.terms live) refl refl k.saw k.least record { first_begins = (v.seen, refl); second_begins = (v.seen, refl); apart = λ n c _. contains_none n c }))
+      (outside_view r.next r.serving r.history w (λ _. k.terms live) refl refl k.saw k.least record { first_begins = (v.seen, refl); second_begins = (v.seen, refl); apart = λ n c _. contains_none n c }))
 
   pub joins : (id other : ℕ) (v w : V) → v.place ≡ Outside → w.place ≡ Outside → Joins Rule id v other w (joined v w) spent
   joins id other v w out gone s r at apart there =
@@ -142,8 +141,8 @@ module _ {B E : Type 0} (kind : E → Kind) (log : B → List E) (terms_of : B �
         each = all_views (Knows terms r.next r.serving r.history) views other spent
             (outside_view r.next r.serving r.history spent (λ (e : true ≡ false). absurd (true≢false e)) refl refl (r.history, refl) (omega arith) record { first_begins = ([], refl); second_begins = ([], refl); apart = λ n c _. contains_none n c })
             (all_others (Knows terms r.next r.serving r.history) s.views id both
-                (outside_view r.next r.serving r.history both k.terms undrawn off (longer_begins v.seen w.seen r.history k.saw l.saw) most two)
-                (λ j z p. r.each j z p));
+            (outside_view r.next r.serving r.history both k.terms undrawn off (longer_begins v.seen w.seen r.history k.saw l.saw) most two)
+            (λ j z p. r.each j z p));
         apart = apart_set views other spent (apart_set s.views id both r.apart (λ j z _ p _ e _. true≢false (sym e ∙ undrawn))) (λ j z _ p _ (e : false ≡ true) _. true≢false (sym e));
         slot = quiet kind log terms_of terms record { words = s.words; homes = s.homes; views = views } r.history other w spent s.words there (ap has_turn gone) refl
             (quiet kind log terms_of terms s r.history id v both s.words at off off r.slot);

@@ -1,5 +1,5 @@
 -- Lists of places.
-use Rattle.std.proofs.Common.{◌≡◌, ◌⊎◌, ℕ, zero, suc, ◌<◌, ◌≤◌, nat_le, List, [], ◌∷◌, ◌++◌, refl, sym, subst, inl, inr, ⊎_elim, arith}
+use Rattle.std.proofs.Common.{◌≡◌, ◌⊎◌, ℕ, zero, suc, ◌<◌, nat_le, List, [], ◌∷◌, ◌++◌, refl, sym, subst, inl, inr, ⊎_elim, arith}
 use Rattle.std.specs.List.{All, AllPairs, Contains}
 use Rattle.std.proofs.lemmas.Bool.Decides.{nat_tests}
 use Rattle.std.proofs.lemmas.List.Elements.{All-append, Contains-append_cases}
@@ -70,15 +70,15 @@ put_in_old n [] k c = absurd (contains_none k c)
 put_in_old n (x ∷ xs) k c = by_test (nat_le n x) (λ l. Contains l k) (x ∷ put_in n xs) (n ∷ x ∷ xs)
     (λ _. contains_tail n (x ∷ xs) k c)
     (λ _. ⊎_elim (λ (a : Contains (x ∷ []) k). subst (Contains (x ∷ put_in n xs)) (sym (contains_one x k a)) (contains_head x (put_in n xs)))
-        (λ (b : Contains xs k). contains_tail x (put_in n xs) k (put_in_old n xs k b)) (Contains-append_cases (x ∷ []) xs k c))
+    (λ (b : Contains xs k). contains_tail x (put_in n xs) k (put_in_old n xs k b)) (Contains-append_cases (x ∷ []) xs k c))
 
 put_in_cases : (n : ℕ) (xs : List ℕ) (k : ℕ) → Contains (put_in n xs) k → (k ≡ n) ⊎ Contains xs k
 put_in_cases n [] k c = inl (contains_one n k c)
 put_in_cases n (x ∷ xs) k there = by_test (nat_le n x) (λ l. Contains l k → (k ≡ n) ⊎ Contains (x ∷ xs) k) (x ∷ put_in n xs) (n ∷ x ∷ xs)
     (λ _ c. ⊎_elim (λ (a : Contains (n ∷ []) k). inl (contains_one n k a)) (λ (b : Contains (x ∷ xs) k). inr b) (Contains-append_cases (n ∷ []) (x ∷ xs) k c))
     (λ _ c. ⊎_elim (λ (a : Contains (x ∷ []) k). inr (subst (Contains (x ∷ xs)) (sym (contains_one x k a)) (contains_head x xs)))
-        (λ (b : Contains (put_in n xs) k). ⊎_elim (λ (e : k ≡ n). inl e) (λ (d : Contains xs k). inr (contains_tail x xs k d)) (put_in_cases n xs k b))
-        (Contains-append_cases (x ∷ []) (put_in n xs) k c)) there
+    (λ (b : Contains (put_in n xs) k). ⊎_elim (λ (e : k ≡ n). inl e) (λ (d : Contains xs k). inr (contains_tail x xs k d)) (put_in_cases n xs k b))
+    (Contains-append_cases (x ∷ []) (put_in n xs) k c)) there
 
 all_put_in : (P : ℕ → Type 0) (n : ℕ) (xs : List ℕ) → P n → All P xs → All P (put_in n xs)
 all_put_in P n [] p h = all_one P n p
@@ -94,10 +94,10 @@ ascending_put_in n (x ∷ xs) h new =
     let other : n ≡ x → ⊥ = (λ e. new (subst (Contains (x ∷ xs)) (sym e) (contains_head x xs))) in
     let rest : All (λ (k : ℕ). x < k) xs = pairs_head (λ (a b : ℕ). a < b) x xs h in by_test (nat_le n x) IsAscending (x ∷ put_in n xs) (n ∷ x ∷ xs)
     (λ e. let lt : n < x = grind (arith, nat_tests) in
-        AllPairs-cons (λ (a b : ℕ). a < b) n (x ∷ xs) (all_cons (λ (k : ℕ). n < k) x xs lt (all_implied (λ (k : ℕ). x < k) (λ (k : ℕ). n < k) (λ k l. omega arith) xs rest)) h)
+    AllPairs-cons (λ (a b : ℕ). a < b) n (x ∷ xs) (all_cons (λ (k : ℕ). n < k) x xs lt (all_implied (λ (k : ℕ). x < k) (λ (k : ℕ). n < k) (λ k l. omega arith) xs rest)) h)
     (λ e. let lt : x < n = grind (arith, nat_tests) in
-        AllPairs-cons (λ (a b : ℕ). a < b) x (put_in n xs) (all_put_in (λ (k : ℕ). x < k) n xs lt rest)
-        (ascending_put_in n xs (pairs_tail (λ (a b : ℕ). a < b) x xs h) (λ c. new (contains_tail x xs n c))))
+    AllPairs-cons (λ (a b : ℕ). a < b) x (put_in n xs) (all_put_in (λ (k : ℕ). x < k) n xs lt rest)
+    (ascending_put_in n xs (pairs_tail (λ (a b : ℕ). a < b) x xs h) (λ c. new (contains_tail x xs n c))))
 
 pub merged_first : (xs ys : List ℕ) (k : ℕ) → Contains xs k → Contains (merged xs ys) k
 merged_first [] ys k c = absurd (contains_none k c)
@@ -124,4 +124,4 @@ ascending_merged [] ys p q apart = q
 ascending_merged (x ∷ xs) ys p q apart =
     ascending_put_in x (merged xs ys) (ascending_merged xs ys (pairs_tail (λ (a b : ℕ). a < b) x xs p) q (λ k a b. apart k (contains_tail x xs k a) b))
     (λ c. ⊎_elim (λ (a : Contains xs x). let lt : x < x = all_at (λ (k : ℕ). x < k) xs x (pairs_head (λ (a b : ℕ). a < b) x xs p) a in omega arith)
-        (λ (b : Contains ys x). apart x (contains_head x xs) b) (merged_cases xs ys x c))
+    (λ (b : Contains ys x). apart x (contains_head x xs) b) (merged_cases xs ys x c))

@@ -177,7 +177,11 @@ impl<B: Logged + Drop> TurnLock<B> {
         self.listen(rt, &mut pass.seat, count);
     }
 
-    fn part(&self, seat: &mut Seat<Option<B>, View<B::Entry>>, role: Role) -> Seat<Option<B>, View<B::Entry>>
+    fn part(
+        &self,
+        seat: &mut Seat<Option<B>, View<B::Entry>>,
+        role: Role,
+    ) -> Seat<Option<B>, View<B::Entry>>
         requires own { seat.old.table_id ≡ self.now.table }
         requires outside { seat.old.me.0.place ≡ Place.Outside }
         ensures same { (seat.new.table_id ≡ seat.old.table_id) × (seat.new.id ≡ seat.old.id) × (seat.new.me ≡ seat.old.me) }

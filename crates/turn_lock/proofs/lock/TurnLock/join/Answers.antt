@@ -1,6 +1,4 @@
-use Rattle.std.proofs.Common.{rules, arith, false, ◌≡◌, ◌∙◌, ℕ, max, sym, ap, subst, length, refl}
-use Rattle.std.specs.List.{Contains}
-use Rattle.turn_lock.specs.declared.view.Place.TheVariants.{Outside}
+use Rattle.std.proofs.Common.{rules, arith, false, ◌≡◌, ◌∙◌, ap, subst, length}
 use Rattle.turn_lock.specs.Lists.{longer, merged}
 use Rattle.turn_lock.specs.Turn.{has_turn, joined, Joined}
 use Rattle.turn_lock.specs.Kinds.{OwnsSubjects}

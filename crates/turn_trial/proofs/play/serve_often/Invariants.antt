@@ -1,0 +1,5 @@
+use Rattle.turn_trial.specs.Trial.{GoesOn}
+use Rattle.turn_trial.proofs.play.serve_often.Given as goal
+
+abbrev pub invariant-loop : goal.invariant-loop
+invariant-loop g l = GoesOn l.lock l.initial.pass l.pass
