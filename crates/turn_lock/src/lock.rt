@@ -44,7 +44,7 @@ impl<B: Logged> Model for TurnLock<B> {
     ghost invariant = { λ l. (l.table.shared.table_id.words ≡ 3) × (l.table.shared.table_id.slots ≡ 1) };
 }
 
-// the words of the table
+// the words of the table: the next ticket, the ticket that is served, and the number of entries
 const NEXT: usize = 0;
 
 const SERVING: usize = 1;
@@ -89,7 +89,8 @@ impl<B: Logged + Drop> TurnLock<B> {
         ensures least { pass.old.least ≤ length pass.new.seen }
         ensures counted { pass.new.least ≡ length pass.new.seen }
         ensures sound { IsSound B.kind pass.new }
-        ensures same { (pass.new.lock ≡ pass.old.lock) × (pass.new.role ≡ pass.old.role) × (pass.new.mine ≡ pass.old.mine) }
+        ensures same { (pass.new.lock ≡ pass.old.lock) × (pass.new.role ≡ pass.old.role)
+            × (pass.new.mine ≡ pass.old.mine) }
     {
         let ticket = self.draw(rt, &mut pass.seat);
         self.wait(rt, &mut pass.seat, ticket);
@@ -98,7 +99,8 @@ impl<B: Logged + Drop> TurnLock<B> {
         Held { value }
     }
 
-    /// Gives the value back, and the turn to the next ticket.
+    /// Gives the value back, and the turn to the next ticket. The value has the entries that the pass
+    /// has seen, or these and one more that it may add, which is then its own.
     pub fn give(&self, pass: &mut Pass<B>, held: Held<B>)
         requires own { pass.old.lock ≡ self.now }
         requires inside { pass.old.turn ≡ true }
@@ -108,9 +110,11 @@ impl<B: Logged + Drop> TurnLock<B> {
         ensures seen { pass.new.seen ≡ B.log held.value }
         ensures counted { pass.new.least ≡ length pass.new.seen }
         ensures kept { B.log held.value ≡ pass.old.seen → pass.new.mine ≡ pass.old.mine }
-        ensures added { (e : B.Entry) → B.log held.value ≡ pass.old.seen ++ e ∷ [] → pass.new.mine ≡ pass.old.mine ++ length pass.old.seen ∷ [] }
+        ensures added { (e : B.Entry) → B.log held.value ≡ pass.old.seen ++ e ∷ []
+            → pass.new.mine ≡ pass.old.mine ++ length pass.old.seen ∷ [] }
         ensures sound { IsSound B.kind pass.new }
-        ensures same { (pass.new.lock ≡ pass.old.lock) × (pass.new.role ≡ pass.old.role) × (pass.new.looks ≡ pass.old.looks) }
+        ensures same { (pass.new.lock ≡ pass.old.lock) × (pass.new.role ≡ pass.old.role)
+            × (pass.new.looks ≡ pass.old.looks) }
     {
         let Held { value } = held;
         let before = pass.count;
@@ -157,7 +161,8 @@ impl<B: Logged + Drop> TurnLock<B> {
         ensures apart { (k : ℕ) → Contains pass.old.mine k → Contains other.mine k → ⊥ }
         ensures least { pass.new.least ≡ max pass.old.least other.least }
         ensures sound { IsSound B.kind pass.new }
-        ensures same { (pass.new.lock ≡ pass.old.lock) × (pass.new.role ≡ pass.old.role) × (pass.new.looks ≡ pass.old.looks) × (pass.new.turn ≡ false) }
+        ensures same { (pass.new.lock ≡ pass.old.lock) × (pass.new.role ≡ pass.old.role)
+            × (pass.new.looks ≡ pass.old.looks) × (pass.new.turn ≡ false) }
     {
         let Pass { seat, count } = other;
         self.table.shared.join_seat::<Merge>(&mut pass.seat, seat);
@@ -184,8 +189,10 @@ impl<B: Logged + Drop> TurnLock<B> {
     ) -> Seat<Option<B>, View<B::Entry>>
         requires own { seat.old.table_id ≡ self.now.table }
         requires outside { seat.old.me.0.place ≡ Place.Outside }
-        ensures same { (seat.new.table_id ≡ seat.old.table_id) × (seat.new.id ≡ seat.old.id) × (seat.new.me ≡ seat.old.me) }
-        ensures other { (result.table_id ≡ seat.old.table_id) × (result.me ≡ (twin role seat.old.me.0, [])) }
+        ensures same { (seat.new.table_id ≡ seat.old.table_id) × (seat.new.id ≡ seat.old.id)
+            × (seat.new.me ≡ seat.old.me) }
+        ensures other { (result.table_id ≡ seat.old.table_id)
+            × (result.me ≡ (twin role seat.old.me.0, [])) }
     {
         match role {
             Role::Opener => self.table.shared.split_seat::<NewOpener>(seat),
@@ -250,9 +257,12 @@ impl<B: Logged + Drop> TurnLock<B> {
     fn add(&self, seat: &mut Seat<Option<B>, View<B::Entry>>)
         requires own { seat.old.table_id ≡ self.now.table }
         requires inside { seat.old.me.0.place ≡ Place.Inside (ticket_of seat.old.me.0.place) }
-        requires one { (b : B) × (e : B.Entry) × (seat.old.me.1 ≡ (0, Some b) ∷ []) × (B.log b ≡ seat.old.me.0.seen ++ e ∷ []) × (length (B.log b) < 2 ^ 64) × MayAdd B.kind seat.old.me.0.role seat.old.me.0.seen seat.old.me.0.mine e }
+        requires one { (b : B) × (e : B.Entry) × (seat.old.me.1 ≡ (0, Some b) ∷ [])
+            × (B.log b ≡ seat.old.me.0.seen ++ e ∷ []) × (length (B.log b) < 2 ^ 64)
+            × MayAdd B.kind seat.old.me.0.role seat.old.me.0.seen seat.old.me.0.mine e }
         ensures same { (seat.new.table_id ≡ seat.old.table_id) × (seat.new.id ≡ seat.old.id) }
-        ensures seen { (b : B) → seat.old.me.1 ≡ (0, Some b) ∷ [] → seat.new.me ≡ (grown seat.old.me.0 (B.log b), seat.old.me.1) }
+        ensures seen { (b : B) → seat.old.me.1 ≡ (0, Some b) ∷ []
+            → seat.new.me ≡ (grown seat.old.me.0 (B.log b), seat.old.me.1) }
     {
         self.table.shared.fetch_add::<Add>(seat, COUNT, 1);
     }
@@ -261,12 +271,17 @@ impl<B: Logged + Drop> TurnLock<B> {
     fn leave(&self, seat: &mut Seat<Option<B>, View<B::Entry>>)
         requires own { seat.old.table_id ≡ self.now.table }
         requires inside { seat.old.me.0.place ≡ Place.Inside (ticket_of seat.old.me.0.place) }
-        requires known { (b : B) × (seat.old.me.1 ≡ (0, Some b) ∷ []) × (B.log b ≡ seat.old.me.0.seen) × (B.terms_of b ≡ seat.old.me.0.terms) }
+        requires known { (b : B) × (seat.old.me.1 ≡ (0, Some b) ∷ [])
+            × (B.log b ≡ seat.old.me.0.seen) × (B.terms_of b ≡ seat.old.me.0.terms) }
         ensures same { (seat.new.table_id ≡ seat.old.table_id) × (seat.new.id ≡ seat.old.id) }
         ensures outside { seat.new.me ≡ (moved seat.old.me.0 Place.Outside, []) }
         ensures subjects { OwnsSubjects B.kind seat.old.me.0.seen seat.old.me.0.mine }
     {
-        self.table.shared.fetch_add::<Leave>(seat, SERVING, 1);
-        self.table.shared.wake_all(SERVING);
+        let served = self.table.shared.fetch_add::<Leave>(seat, SERVING, 1);
+        // Where no other ticket was drawn, nobody sleeps. A pass that draws one later looks at the
+        // ticket that is served after this step.
+        if self.table.shared.peek(NEXT) != served.wrapping_add(1) {
+            self.table.shared.wake_all(SERVING);
+        }
     }
 }
