@@ -1,4 +1,4 @@
-ghost use Rattle.std.specs.Prelude.{◌≡◌, ◌<◌, ◌≤◌, length, IfSome, true};
+ghost use Rattle.std.specs.Prelude.{◌≡◌, ◌+◌, ◌<◌, ◌≤◌, length, IfSome, true};
 ghost use Rattle.turn_lock.specs.declared.logged.Role.TheVariants.{Hand};
 ghost use Rattle.turn_trial.specs.Trial.{IsOutside, GoesOn, HasOpened, HasServed};
 
@@ -10,7 +10,8 @@ use turn_lock::{Logged, Pass, Role, TurnLock};
 pub fn say<R: Wait>(rt: &R, lock: &TurnLock<Notes>, pass: &mut Pass<Notes>, role: Role, number: u32)
     requires outside { IsOutside lock.now pass.old }
     requires role { role ≡ pass.old.role }
-    ensures { GoesOn lock.now pass.old pass.new }
+    ensures goes_on { GoesOn lock.now pass.old pass.new }
+    ensures looked { length pass.new.looks ≡ length pass.old.looks + 1 }
 {
     let mut held = lock.take(rt, pass);
     let _ = held.value.say(role, number);
@@ -27,7 +28,8 @@ pub fn say_often<R: Wait>(
 )
     requires outside { IsOutside lock.now pass.old }
     requires role { role ≡ pass.old.role }
-    ensures { GoesOn lock.now pass.old pass.new }
+    ensures goes_on { GoesOn lock.now pass.old pass.new }
+    ensures looked { length pass.new.looks ≡ length pass.old.looks + count }
 {
     for i in 0..count {
         say(rt, lock, pass, role, i);
@@ -51,6 +53,7 @@ pub fn serve<R: Wait>(rt: &R, lock: &TurnLock<Notes>, pass: &mut Pass<Notes>) ->
     requires hand { pass.old.role ≡ Hand }
     ensures goes_on { GoesOn lock.now pass.old pass.new }
     ensures served { IfSome result (λ s. HasServed s pass.new) }
+    ensures looked { length pass.old.looks < length pass.new.looks }
 {
     let session = open(rt, lock, pass)?;
     if close(rt, lock, pass, session) {
@@ -64,7 +67,8 @@ pub fn serve<R: Wait>(rt: &R, lock: &TurnLock<Notes>, pass: &mut Pass<Notes>) ->
 pub fn serve_often<R: Wait>(rt: &R, lock: &TurnLock<Notes>, pass: &mut Pass<Notes>, count: u32)
     requires outside { IsOutside lock.now pass.old }
     requires hand { pass.old.role ≡ Hand }
-    ensures { GoesOn lock.now pass.old pass.new }
+    ensures goes_on { GoesOn lock.now pass.old pass.new }
+    ensures looked { length pass.old.looks + count ≤ length pass.new.looks }
 {
     for _ in 0..count {
         let _ = serve(rt, lock, pass);
@@ -89,6 +93,7 @@ fn open<R: Wait>(rt: &R, lock: &TurnLock<Notes>, pass: &mut Pass<Notes>) -> Opti
     requires hand { pass.old.role ≡ Hand }
     ensures goes_on { GoesOn lock.now pass.old pass.new }
     ensures opened { IfSome result (λ s. HasOpened s pass.new) }
+    ensures looked { length pass.new.looks ≡ length pass.old.looks + 1 }
 {
     let mut held = lock.take(rt, pass);
     let session = held.value.open();
@@ -102,6 +107,7 @@ fn close<R: Wait>(rt: &R, lock: &TurnLock<Notes>, pass: &mut Pass<Notes>, sessio
     requires opened { HasOpened session pass.old }
     ensures goes_on { GoesOn lock.now pass.old pass.new }
     ensures served { result ≡ true → HasServed session pass.new }
+    ensures looked { length pass.new.looks ≡ length pass.old.looks + 1 }
 {
     let mut held = lock.take(rt, pass);
     let closed = held.value.close(session);
