@@ -1,0 +1,5 @@
+pub mod Answer
+pub mod Batch
+pub mod Numbers
+pub mod Reading
+pub mod Reports
