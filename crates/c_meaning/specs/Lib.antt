@@ -1,5 +1,6 @@
 pub mod Config
 pub mod Demand
+pub mod Examples
 pub mod Graph
 pub mod Run
 pub mod Tree

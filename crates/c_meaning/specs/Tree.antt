@@ -10,7 +10,7 @@ use Rattle.gob_tree.specs.declared.expr.Expr.{Expr, Number}
 use Rattle.gob_tree.specs.declared.stmt.Target.{Target}
 use Rattle.gob_tree.specs.declared.stmt.Stmt.{Stmt, out-Stmt}
 use Rattle.gob_tree.specs.declared.stmt.Stmt.TheOpen.{Stmt-F, Placed-F}
-use Rattle.gob_tree.specs.declared.stmt.Placed.{Placed, out-Placed, roll-Placed, para-Placed}
+use Rattle.gob_tree.specs.declared.stmt.Placed.{Placed, para-Placed}
 use Rattle.gob_tree.specs.declared.unit.Slot.{Slot}
 use Rattle.gob_tree.specs.declared.unit.Function.{Function}
 use Rattle.gob_tree.specs.declared.unit.Unit.{Unit as TranslationUnit}
@@ -27,7 +27,7 @@ use Rattle.c_meaning.specs.Config.{Config, thread_at, Effect, Keeps, SetsGlobal,
 
 -- what one statement is, with its parts
 abbrev pub layer_of : Placed → Stmt-F Stmt Placed
-layer_of p = out-Stmt (out-Placed p).stmt
+layer_of p = out-Stmt p.stmt
 
 abbrev pub statements : List Placed → List Todo
 statements = map Do
@@ -47,7 +47,7 @@ unroll_stmt (Stmt-F.For (s ∷ ss) test last body) own rest = s.1 (statements (m
 unroll_stmt other own rest = Do own ∷ rest
 
 abbrev pub unroll_placed : Placed-F (Stmt × (Placed → List Todo → List Todo)) Opened → List Todo → List Todo
-unroll_placed p = p.stmt.1 (roll-Placed (record { place = p.place; stmt = p.stmt.0 }))
+unroll_placed p = p.stmt.1 (record { place = p.place; stmt = p.stmt.0 })
 
 -- the list with a statement in front, unrolled as soon as it stands there
 abbrev pub with_front : Placed → List Todo → List Todo
