@@ -6,7 +6,7 @@ use Rattle.gob_tree.specs.declared.expr.Width.{Width}
 use Rattle.gob_tree.specs.declared.expr.Width.TheVariants.{W32}
 use Rattle.gob_tree.specs.declared.unit.Slot.{Slot}
 use Rattle.gob_tree.specs.declared.unit.GlobalDecl.{GlobalDecl}
-use Rattle.c_meaning.specs.Demand.{converted}
+use Rattle.c_meaning.specs.Demand.{conversion}
 
 -- The values of the globals, the owner of each mutex, and the threads. Threads are numbered from 1
 -- in this order. A thread is the list of its frames, the topmost first.
@@ -34,11 +34,11 @@ pub data Effect (F : Type 0) : Type 0 where
   Starts : (frame : F) → Effect F
 
 -- the configuration after a thread got these frames, with an effect
-abbrev pub applied : {F : Type 0} → Config F → ℕ → List F → Effect F → Config F
-applied c t frames Keeps = record c { threads = with_thread c.threads t frames }
-applied c t frames (SetsGlobal g n) = record c { globals = slice_set c.globals g n; threads = with_thread c.threads t frames }
-applied c t frames (SetsOwner m owner) = record c { owners = slice_set c.owners m owner; threads = with_thread c.threads t frames }
-applied c t frames (Starts frame) = record c { threads = with_thread c.threads t frames ++ (frame ∷ []) ∷ [] }
+abbrev pub after_effect : {F : Type 0} → Config F → ℕ → List F → Effect F → Config F
+after_effect c t frames Keeps = record c { threads = with_thread c.threads t frames }
+after_effect c t frames (SetsGlobal g n) = record c { globals = slice_set c.globals g n; threads = with_thread c.threads t frames }
+after_effect c t frames (SetsOwner m owner) = record c { owners = slice_set c.owners m owner; threads = with_thread c.threads t frames }
+after_effect c t frames (Starts frame) = record c { threads = with_thread c.threads t frames ++ (frame ∷ []) ∷ [] }
 
 -- the number of the next thread
 abbrev pub next_thread : {F : Type 0} → Config F → ℕ
@@ -56,19 +56,19 @@ abbrev pub global_width : List GlobalDecl → ℕ → Width
 global_width globals g = option_map_or (λ decl. decl.width) (slice_get globals g) W32
 
 -- the parameters' values, converted to their widths, and 0 in each slot after them
-abbrev pub params_set : List Slot → List ℤ → List ℤ
-params_set [] args = []
-params_set (slot ∷ slots) [] = pos 0 ∷ params_set slots []
-params_set (slot ∷ slots) (n ∷ args) = converted slot.width n ∷ params_set slots args
+abbrev pub param_values : List Slot → List ℤ → List ℤ
+param_values [] args = []
+param_values (slot ∷ slots) [] = pos 0 ∷ param_values slots []
+param_values (slot ∷ slots) (n ∷ args) = conversion slot.width n ∷ param_values slots args
 
 -- the slots of a new frame: 0 in slot 0, then the parameters, and 0 in every other slot
 abbrev pub first_values : List Slot → List ℤ → List ℤ
 first_values [] args = []
-first_values (slot ∷ slots) args = pos 0 ∷ params_set slots args
+first_values (slot ∷ slots) args = pos 0 ∷ param_values slots args
 
 -- no thread variable has a thread
-abbrev pub no_threads : {A : Type 0} → List A → List (Option ℕ)
-no_threads names = replicate (length names) None
+abbrev pub unset_vars : {A : Type 0} → List A → List (Option ℕ)
+unset_vars names = replicate (length names) None
 
 -- the configuration of a program's start: globals at their initial values, no mutex owned, and
 -- thread 1 with one frame

@@ -27,8 +27,8 @@ bits_of W32 = w32
 bits_of W64 = w64
 
 -- the number of a width that equals n modulo 2 ^ 32 or 2 ^ 64
-abbrev pub converted : Width → ℤ → ℤ
-converted w n = int_wrap (bits_of w) n
+abbrev pub conversion : Width → ℤ → ℤ
+conversion w n = int_wrap (bits_of w) n
 
 -- W64 where one of the two is
 abbrev pub wider : Width → Width → Width
@@ -44,8 +44,8 @@ abbrev pub value_at : List ℤ → ℕ → ℤ
 value_at values x = slice_index_or values x (pos 0)
 
 -- the values after a number was stored in a slot, converted to the slot's width
-abbrev pub stored : List Slot → ℕ → ℤ → List ℤ → List ℤ
-stored slots x n values = slice_set values x (converted (slot_width slots x) n)
+abbrev pub with_slot : List Slot → ℕ → ℤ → List ℤ → List ℤ
+with_slot slots x n values = slice_set values x (conversion (slot_width slots x) n)
 
 -- ---- operators on numbers
 
@@ -56,19 +56,19 @@ abbrev pub is_zero : ℤ → Bool
 is_zero n = int_eq n (pos 0)
 
 abbrev pub unary_value : UnOp → Width → ℤ → ℤ
-unary_value Neg w n = converted w (neg_ℤ n)
+unary_value Neg w n = conversion w (neg_ℤ n)
 unary_value Not w n = truth (is_zero n)
 
 -- a quotient or a remainder, which round towards zero; none by zero
-abbrev pub divided : (ℤ → ℤ → ℤ) → Width → ℤ → ℤ → Result ℤ Demand
-divided f w n m = if is_zero m then Err Fault else Ok (converted w (f n m))
+abbrev pub quotient_or_fault : (ℤ → ℤ → ℤ) → Width → ℤ → ℤ → Result ℤ Demand
+quotient_or_fault f w n m = if is_zero m then Err Fault else Ok (conversion w (f n m))
 
 abbrev pub binary_value : BinOp → Width → ℤ → ℤ → Result ℤ Demand
-binary_value Add w n m = Ok (converted w (n +ℤ m))
-binary_value Sub w n m = Ok (converted w (n -ℤ m))
-binary_value Mul w n m = Ok (converted w (n *ℤ m))
-binary_value Div w n m = divided int_div w n m
-binary_value Rem w n m = divided int_rem w n m
+binary_value Add w n m = Ok (conversion w (n +ℤ m))
+binary_value Sub w n m = Ok (conversion w (n -ℤ m))
+binary_value Mul w n m = Ok (conversion w (n *ℤ m))
+binary_value Div w n m = quotient_or_fault int_div w n m
+binary_value Rem w n m = quotient_or_fault int_rem w n m
 binary_value Lt w n m = Ok (truth (int_lt n m))
 binary_value Le w n m = Ok (truth (int_le n m))
 binary_value Gt w n m = Ok (truth (int_lt m n))
@@ -90,13 +90,13 @@ early_value op n = None
 abbrev pub Answer : Type 0 → Type 0
 Answer A = Result A Demand × List ℤ
 
-abbrev pub with_answer : {A B : Type 0} → Result A Demand → List ℤ → (A → List ℤ → Answer B) → Answer B
-with_answer (Ok v) rest go = go v rest
-with_answer (Err demand) rest go = (Err demand, rest)
+abbrev pub on_answer : {A B : Type 0} → Result A Demand → List ℤ → (A → List ℤ → Answer B) → Answer B
+on_answer (Ok v) rest go = go v rest
+on_answer (Err demand) rest go = (Err demand, rest)
 
 -- goes on with the value, if there is one
 abbrev pub and_then : {A B : Type 0} → Answer A → (A → List ℤ → Answer B) → Answer B
-and_then a go = with_answer a.0 a.1 go
+and_then a go = on_answer a.0 a.1 go
 
 -- the next input, or what is missing
 abbrev pub next_input : Demand → List ℤ → Answer ℤ
@@ -104,9 +104,9 @@ next_input missing [] = (Err missing, [])
 next_input missing (n ∷ ins) = (Ok n, ins)
 
 -- the value that is decided already, or else the answer
-abbrev pub unless_decided : Option ℤ → List ℤ → Answer ℤ → Answer ℤ
-unless_decided (Some v) rest a = (Ok v, rest)
-unless_decided None rest a = a
+abbrev pub decided_or : Option ℤ → List ℤ → Answer ℤ → Answer ℤ
+decided_or (Some v) rest a = (Ok v, rest)
+decided_or None rest a = a
 
 -- ---- expressions
 
@@ -153,7 +153,7 @@ answer_step (Expr-F.Unary op a) slots values ins =
     and_then (a.answer slots values ins) (λ n rest. (Ok (unary_value op (a.width slots) n), rest))
 answer_step (Expr-F.Binary op a b) slots values ins =
     and_then (a.answer slots values ins) (λ n rest.
-        unless_decided (early_value op n) rest
+        decided_or (early_value op n) rest
             (and_then (b.answer slots values rest) (λ m rest'. (binary_value op (wider (a.width slots) (b.width slots)) n m, rest'))))
 answer_step (Expr-F.Call f w args) slots values ins =
     and_then (answers_of args slots values ins) (λ ns rest. next_input (Call f ns) rest)

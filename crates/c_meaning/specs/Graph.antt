@@ -114,13 +114,13 @@ abbrev pub Hoisted : Type 0 → Type 0
 Hoisted A = A × Spot
 
 -- gets an input into the temporary t by an edge to a new node
-abbrev pub fetched_into : ℕ → Place → Action → Spot → Hoisted Expr
-fetched_into t place act s =
+abbrev pub fetch_into : ℕ → Place → Action → Spot → Hoisted Expr
+fetch_into t place act s =
     let node = next_node s.draft in
     (Local t, record s { draft = with_edge s.at act node (with_node place s.draft); at = node })
 
-abbrev pub fetched : Place → Width → (ℕ → Action) → Spot → Hoisted Expr
-fetched place w act s = fetched_into (temp_slot w s) place (act (temp_slot w s)) (with_temp w s)
+abbrev pub fetch : Place → Width → (ℕ → Action) → Spot → Hoisted Expr
+fetch place w act s = fetch_into (temp_slot w s) place (act (temp_slot w s)) (with_temp w s)
 
 -- whether an expression has an input, and how it is hoisted in a statement at a place
 pub record Hoisting : Type 0 where
@@ -139,8 +139,8 @@ node_of b p q = if b then p else q
 -- From the left operand l at node s.at: guards to p and q, of which one decides and leads on to j,
 -- and the right operand from the other. All these edges but those of the right operand's inputs
 -- are silent.
-abbrev pub right_joined : ℕ → ℕ → Hoisted Expr → Hoisted Expr
-right_joined t j r =
+abbrev pub right_join : ℕ → ℕ → Hoisted Expr → Hoisted Expr
+right_join t j r =
     (Local t, record r.1 { draft = with_silent r.1.at (Assign t (Binary Ne r.0 (Number (pos 0) W32))) j r.1.draft; at = j })
 
 abbrev pub logic_at : Bool → Hoisting → Place → ℕ → ℕ → Expr → Spot → Hoisted Expr
@@ -150,40 +150,40 @@ logic_at stop right place t p l s =
     let nodes = with_node place (with_node place (with_node place s.draft)) in
     let guards = with_silent s.at (Guard l false) q (with_silent s.at (Guard l true) p nodes) in
     let decided = with_silent (node_of stop p q) (Assign t (Number (truth stop) W32)) j guards in
-    right_joined t j (right.hoist place (record s { draft = decided; at = node_of stop q p }))
+    right_join t j (right.hoist place (record s { draft = decided; at = node_of stop q p }))
 
-abbrev pub logic_joined : Bool → Hoisting → Place → Hoisted Expr → Hoisted Expr
-logic_joined stop right place l =
+abbrev pub logic_join : Bool → Hoisting → Place → Hoisted Expr → Hoisted Expr
+logic_join stop right place l =
     logic_at stop right place (temp_slot W32 l.1) (next_node l.1.draft) l.0 (with_temp W32 l.1)
 
 -- both operands from left to right
 abbrev pub strict_right : BinOp → Expr → Hoisted Expr → Hoisted Expr
 strict_right op l r = (Binary op l r.0, r.1)
 
-abbrev pub strict_joined : BinOp → Hoisting → Place → Hoisted Expr → Hoisted Expr
-strict_joined op right place l = strict_right op l.0 (right.hoist place l.1)
+abbrev pub strict_join : BinOp → Hoisting → Place → Hoisted Expr → Hoisted Expr
+strict_join op right place l = strict_right op l.0 (right.hoist place l.1)
 
 -- `&&` and `||` branch only where the right operand has an input
-abbrev pub binary_joined : BinOp → Option Bool → Hoisting → Place → Hoisted Expr → Hoisted Expr
-binary_joined op None right place l = strict_joined op right place l
-binary_joined op (Some stop) right place l =
-    if right.inputs then logic_joined stop right place l else strict_joined op right place l
+abbrev pub binary_join : BinOp → Option Bool → Hoisting → Place → Hoisted Expr → Hoisted Expr
+binary_join op None right place l = strict_join op right place l
+binary_join op (Some stop) right place l =
+    if right.inputs then logic_join stop right place l else strict_join op right place l
 
 -- a list from left to right
 abbrev pub before : Expr → Hoisted (List Expr) → Hoisted (List Expr)
 before e es = (e ∷ es.0, es.1)
 
-abbrev pub all_hoisted : List Hoisting → Place → Spot → Hoisted (List Expr)
-all_hoisted [] place s = ([], s)
-all_hoisted (e ∷ es) place s =
+abbrev pub hoist_all : List Hoisting → Place → Spot → Hoisted (List Expr)
+hoist_all [] place s = ([], s)
+hoist_all (e ∷ es) place s =
     let first = e.hoist place s in
-    before first.0 (all_hoisted es place first.1)
+    before first.0 (hoist_all es place first.1)
 
-abbrev pub unary_hoisted : (Expr → Expr) → Hoisted Expr → Hoisted Expr
-unary_hoisted f a = (f a.0, a.1)
+abbrev pub unary_hoist : (Expr → Expr) → Hoisted Expr → Hoisted Expr
+unary_hoist f a = (f a.0, a.1)
 
-abbrev pub call_fetched : ℕ → Width → Place → Hoisted (List Expr) → Hoisted Expr
-call_fetched f w place args = fetched place w (λ t. Call (Some t) f args.0) args.1
+abbrev pub call_fetch : ℕ → Width → Place → Hoisted (List Expr) → Hoisted Expr
+call_fetch f w place args = fetch place w (λ t. Call (Some t) f args.0) args.1
 
 abbrev pub inputs_step : Expr-F Hoisting → Bool
 inputs_step (Expr-F.Number n w) = false
@@ -197,11 +197,11 @@ inputs_step (Expr-F.Call f w args) = true
 abbrev pub hoist_step : Expr-F Hoisting → Place → Spot → Hoisted Expr
 hoist_step (Expr-F.Number n w) place s = (Number n w, s)
 hoist_step (Expr-F.Local x) place s = (Local x, s)
-hoist_step (Expr-F.Global g w) place s = fetched place w (λ t. Read t g) s
-hoist_step (Expr-F.Nondet w) place s = fetched place w (λ t. Nondet t) s
-hoist_step (Expr-F.Unary op a) place s = unary_hoisted (Unary op) (a.hoist place s)
-hoist_step (Expr-F.Binary op a b) place s = binary_joined op (stop_of op) b place (a.hoist place s)
-hoist_step (Expr-F.Call f w args) place s = call_fetched f w place (all_hoisted args place s)
+hoist_step (Expr-F.Global g w) place s = fetch place w (λ t. Read t g) s
+hoist_step (Expr-F.Nondet w) place s = fetch place w (λ t. Nondet t) s
+hoist_step (Expr-F.Unary op a) place s = unary_hoist (Unary op) (a.hoist place s)
+hoist_step (Expr-F.Binary op a b) place s = binary_join op (stop_of op) b place (a.hoist place s)
+hoist_step (Expr-F.Call f w args) place s = call_fetch f w place (hoist_all args place s)
 
 abbrev pub hoisting_step : Expr-F Hoisting → Hoisting
 hoisting_step e = record { inputs = inputs_step e; hoist = hoist_step e }
@@ -213,11 +213,11 @@ hoisting_of = fold-Expr Hoisting hoisting_step
 abbrev pub begun_at : ℕ → Draft → Spot
 begun_at node d = record { draft = d; taken = []; at = node }
 
-abbrev pub hoisted : Expr → Place → ℕ → Draft → Hoisted Expr
-hoisted e place node d = (hoisting_of e).hoist place (begun_at node d)
+abbrev pub hoisted_expr : Expr → Place → ℕ → Draft → Hoisted Expr
+hoisted_expr e place node d = (hoisting_of e).hoist place (begun_at node d)
 
-abbrev pub hoisted_all : List Expr → Place → ℕ → Draft → Hoisted (List Expr)
-hoisted_all es place node d = all_hoisted (map hoisting_of es) place (begun_at node d)
+abbrev pub hoisted_exprs : List Expr → Place → ℕ → Draft → Hoisted (List Expr)
+hoisted_exprs es place node d = hoist_all (map hoisting_of es) place (begun_at node d)
 
 -- ---- statements
 
@@ -235,11 +235,11 @@ pub record Lowering : Type 0 where
   pub lower : Route → Draft → Draft
 
 -- the last edge, with what was hoisted
-abbrev pub ended_by : (Expr → Action) → ℕ → Hoisted Expr → Draft
-ended_by act to e = with_edge e.1.at (act e.0) to e.1.draft
+abbrev pub last_edge : (Expr → Action) → ℕ → Hoisted Expr → Draft
+last_edge act to e = with_edge e.1.at (act e.0) to e.1.draft
 
-abbrev pub ended_by_call : ℕ → ℕ → Hoisted (List Expr) → Draft
-ended_by_call f to args = with_edge args.1.at (Call None f args.0) to args.1.draft
+abbrev pub call_edge : ℕ → ℕ → Hoisted (List Expr) → Draft
+call_edge f to args = with_edge args.1.at (Call None f args.0) to args.1.draft
 
 -- a list of statements: a new node for each but the first, where it starts; an empty one is a Skip
 abbrev pub sequence : List Lowering → Route → Draft → Draft
@@ -254,59 +254,59 @@ abbrev pub sequence_or_silent : List Lowering → Route → Draft → Draft
 sequence_or_silent [] r d = with_silent r.from Skip r.to d
 sequence_or_silent (s ∷ ss) r d = sequence (s ∷ ss) r d
 
-abbrev pub lowered_or_silent : Option Lowering → Route → Draft → Draft
-lowered_or_silent None r d = with_silent r.from Skip r.to d
-lowered_or_silent (Some s) r d = s.lower r d
+abbrev pub part_or_silent : Option Lowering → Route → Draft → Draft
+part_or_silent None r d = with_silent r.from Skip r.to d
+part_or_silent (Some s) r d = s.lower r d
 
 -- `if`: the guards stand, to the first part's node and the second part's, if it has one
-abbrev pub if_opened : Place → Option Place → ℕ → Hoisted Expr → Draft
-if_opened yes_start None to e =
+abbrev pub if_head : Place → Option Place → ℕ → Hoisted Expr → Draft
+if_head yes_start None to e =
     let yes_node = next_node e.1.draft in
     with_guards e.1.at e.0 yes_node to (with_node yes_start e.1.draft)
-if_opened yes_start (Some no_start) to e =
+if_head yes_start (Some no_start) to e =
     let yes_node = next_node e.1.draft in
     with_guards e.1.at e.0 yes_node (yes_node + 1) (with_node no_start (with_node yes_start e.1.draft))
 
-abbrev pub if_lowered : Lowering → Option Lowering → Route → Hoisted Expr → Draft
-if_lowered a None r e = a.lower (record r { from = next_node e.1.draft }) (if_opened a.start None r.to e)
-if_lowered a (Some b) r e =
+abbrev pub if_draft : Lowering → Option Lowering → Route → Hoisted Expr → Draft
+if_draft a None r e = a.lower (record r { from = next_node e.1.draft }) (if_head a.start None r.to e)
+if_draft a (Some b) r e =
     b.lower (record r { from = next_node e.1.draft + 1 })
-        (a.lower (record r { from = next_node e.1.draft }) (if_opened a.start (Some b.start) r.to e))
+        (a.lower (record r { from = next_node e.1.draft }) (if_head a.start (Some b.start) r.to e))
 
 -- `while`: the guards stand, to the body's node and to the end
-abbrev pub while_opened : Place → ℕ → Hoisted Expr → Draft
-while_opened start to e = with_guards e.1.at e.0 (next_node e.1.draft) to (with_node start e.1.draft)
+abbrev pub while_head : Place → ℕ → Hoisted Expr → Draft
+while_head start to e = with_guards e.1.at e.0 (next_node e.1.draft) to (with_node start e.1.draft)
 
 -- the route of a loop's body, which ends where `continue` goes
 abbrev pub body_route : ℕ → ℕ → ℕ → Route
 body_route from end to = record { from = from; to = end; on_break = to; on_continue = end }
 
-abbrev pub while_lowered : Lowering → Route → Hoisted Expr → Draft
-while_lowered body r e = body.lower (body_route (next_node e.1.draft) r.from r.to) (while_opened body.start r.to e)
+abbrev pub while_draft : Lowering → Route → Hoisted Expr → Draft
+while_draft body r e = body.lower (body_route (next_node e.1.draft) r.from r.to) (while_head body.start r.to e)
 
 -- `do`: the body stands, to the node of the test
-abbrev pub do_lowered : Lowering → Expr → Place → Route → Draft → Draft
-do_lowered body e place r d =
+abbrev pub do_draft : Lowering → Expr → Place → Route → Draft → Draft
+do_draft body e place r d =
     let test = next_node d in
-    let test_at = hoisted e place test (body.lower (body_route r.from test r.to) (with_node place d)) in
+    let test_at = hoisted_expr e place test (body.lower (body_route r.from test r.to) (with_node place d)) in
     with_guards test_at.1.at test_at.0 r.from r.to test_at.1.draft
 
 -- `for`: the first part stands, to the node of the test
-abbrev pub for_begun : List Lowering → Place → Route → Draft → Draft
-for_begun first place r d = sequence_or_silent first (record r { to = next_node d }) (with_node place d)
+abbrev pub for_first : List Lowering → Place → Route → Draft → Draft
+for_first first place r d = sequence_or_silent first (record r { to = next_node d }) (with_node place d)
 
 -- the guards stand, to the body's node and to the end, and the last part has its node
-abbrev pub for_opened : Place → Place → ℕ → Hoisted Expr → Draft
-for_opened body_start last_start to e =
+abbrev pub for_head : Place → Place → ℕ → Hoisted Expr → Draft
+for_head body_start last_start to e =
     with_guards e.1.at e.0 (next_node e.1.draft) to (with_node last_start (with_node body_start e.1.draft))
 
-abbrev pub for_lowered : Option Lowering → Lowering → Place → ℕ → Route → Hoisted Expr → Draft
-for_lowered last body place test r e =
+abbrev pub for_draft : Option Lowering → Lowering → Place → ℕ → Route → Hoisted Expr → Draft
+for_draft last body place test r e =
     let body_node = next_node e.1.draft in
     let last_node = body_node + 1 in
-    lowered_or_silent last (record r { from = last_node; to = test })
+    part_or_silent last (record r { from = last_node; to = test })
         (body.lower (body_route body_node last_node r.to)
-            (for_opened body.start (option_map_or (λ s. s.start) last place) r.to e))
+            (for_head body.start (option_map_or (λ s. s.start) last place) r.to e))
 
 -- a missing condition is 1
 abbrev pub condition : Option Expr → Expr
@@ -323,26 +323,26 @@ start_step other place = place
 
 abbrev pub lower_step : Stmt-F (Place → Lowering) Lowering → Place → Route → Draft → Draft
 lower_step (Stmt-F.Declare x None) place r d = with_edge r.from (Nondet x) r.to d
-lower_step (Stmt-F.Declare x (Some e)) place r d = ended_by (Assign x) r.to (hoisted e place r.from d)
+lower_step (Stmt-F.Declare x (Some e)) place r d = last_edge (Assign x) r.to (hoisted_expr e place r.from d)
 lower_step (Stmt-F.DeclareThread var) place r d = with_edge r.from Skip r.to d
-lower_step (Stmt-F.Assign (Target.Local x) e) place r d = ended_by (Assign x) r.to (hoisted e place r.from d)
-lower_step (Stmt-F.Assign (Target.Global g) e) place r d = ended_by (Write g) r.to (hoisted e place r.from d)
-lower_step (Stmt-F.CallOnly f args) place r d = ended_by_call f r.to (hoisted_all args place r.from d)
-lower_step (Stmt-F.If e a b) place r d = if_lowered a b r (hoisted e place r.from d)
-lower_step (Stmt-F.While e body) place r d = while_lowered body r (hoisted e place r.from d)
-lower_step (Stmt-F.DoWhile body e) place r d = do_lowered body e place r d
+lower_step (Stmt-F.Assign (Target.Local x) e) place r d = last_edge (Assign x) r.to (hoisted_expr e place r.from d)
+lower_step (Stmt-F.Assign (Target.Global g) e) place r d = last_edge (Write g) r.to (hoisted_expr e place r.from d)
+lower_step (Stmt-F.CallOnly f args) place r d = call_edge f r.to (hoisted_exprs args place r.from d)
+lower_step (Stmt-F.If e a b) place r d = if_draft a b r (hoisted_expr e place r.from d)
+lower_step (Stmt-F.While e body) place r d = while_draft body r (hoisted_expr e place r.from d)
+lower_step (Stmt-F.DoWhile body e) place r d = do_draft body e place r d
 lower_step (Stmt-F.For first test last body) place r d =
-    for_lowered last body place (next_node d) r (hoisted (condition test) place (next_node d) (for_begun first place r d))
+    for_draft last body place (next_node d) r (hoisted_expr (condition test) place (next_node d) (for_first first place r d))
 lower_step (Stmt-F.Block all) place r d = sequence all r d
 lower_step Stmt-F.Break place r d = with_edge r.from Skip r.on_break d
 lower_step Stmt-F.Continue place r d = with_edge r.from Skip r.on_continue d
-lower_step (Stmt-F.Return (Some e)) place r d = ended_by (Assign 0) 1 (hoisted e place r.from d)
+lower_step (Stmt-F.Return (Some e)) place r d = last_edge (Assign 0) 1 (hoisted_expr e place r.from d)
 lower_step (Stmt-F.Return None) place r d = with_edge r.from Skip 1 d
 lower_step (Stmt-F.Create var f) place r d = with_edge r.from (Create var f) r.to d
 lower_step (Stmt-F.Join var) place r d = with_edge r.from (Join var) r.to d
 lower_step (Stmt-F.Lock m) place r d = with_edge r.from (Lock m) r.to d
 lower_step (Stmt-F.Unlock m) place r d = with_edge r.from (Unlock m) r.to d
-lower_step (Stmt-F.Assert e) place r d = ended_by Assert r.to (hoisted e place r.from d)
+lower_step (Stmt-F.Assert e) place r d = last_edge Assert r.to (hoisted_expr e place r.from d)
 lower_step Stmt-F.Empty place r d = with_edge r.from Skip r.to d
 
 abbrev pub lowering_step : Stmt-F (Place → Lowering) Lowering → Place → Lowering

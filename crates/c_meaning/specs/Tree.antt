@@ -20,8 +20,8 @@ use Rattle.c_meaning.specs.declared.config.Todo.{Todo}
 use Rattle.c_meaning.specs.declared.config.Todo.TheVariants.{Stmt as Do, Test, Last}
 use Rattle.c_meaning.specs.declared.config.Stepped.{Stepped}
 use Rattle.c_meaning.specs.declared.config.Stepped.TheVariants.{Moved, Blocked, Faulted, Ended, NoThread}
-use Rattle.c_meaning.specs.Demand.{converted, value_at, stored, slot_width, is_zero, demands_of}
-use Rattle.c_meaning.specs.Config.{Config, thread_at, Effect, Keeps, SetsGlobal, SetsOwner, Starts, applied, next_thread, owner_at, global_at, global_width, first_values, no_threads, first_config}
+use Rattle.c_meaning.specs.Demand.{conversion, value_at, with_slot, slot_width, is_zero, demands_of}
+use Rattle.c_meaning.specs.Config.{Config, thread_at, Effect, Keeps, SetsGlobal, SetsOwner, Starts, after_effect, next_thread, owner_at, global_at, global_width, first_values, unset_vars, first_config}
 
 -- ---- what is still to do
 
@@ -53,11 +53,11 @@ unroll_placed p = p.stmt.1 (record { place = p.place; stmt = p.stmt.0 })
 abbrev pub with_front : Placed → List Todo → List Todo
 with_front = para-Placed (Placed → List Todo → List Todo) (List Todo → List Todo) unroll_stmt unroll_placed
 
-abbrev pub unrolled : List Todo → List Todo
-unrolled [] = []
-unrolled (Do p ∷ rest) = with_front p rest
-unrolled (Test p ∷ rest) = Test p ∷ rest
-unrolled (Last p ∷ rest) = Last p ∷ rest
+abbrev pub unrolling : List Todo → List Todo
+unrolling [] = []
+unrolling (Do p ∷ rest) = with_front p rest
+unrolling (Test p ∷ rest) = Test p ∷ rest
+unrolling (Last p ∷ rest) = Last p ∷ rest
 
 -- what is left after `break`: all after the test of the innermost loop that has begun
 abbrev pub after_break : List Todo → List Todo
@@ -127,18 +127,18 @@ func_slots unit f = option_map_or (λ func. func.slots) (slice_get unit.funcs f)
 abbrev pub frame_of : ℕ → Function → List ℤ → Frame
 frame_of f func args = record {
   func = f;
-  todo = unrolled (statements func.body);
+  todo = unrolling (statements func.body);
   slots = first_values func.slots args;
-  vars = no_threads func.threads;
+  vars = unset_vars func.threads;
   ins = [];
 }
 
-abbrev pub entered_or : ℕ → List ℤ → Option Function → Frame
-entered_or f args None = record { func = f; todo = []; slots = []; vars = []; ins = [] }
-entered_or f args (Some func) = frame_of f func args
+abbrev pub new_frame_or : ℕ → List ℤ → Option Function → Frame
+new_frame_or f args None = record { func = f; todo = []; slots = []; vars = []; ins = [] }
+new_frame_or f args (Some func) = frame_of f func args
 
-abbrev pub entered : TranslationUnit → ℕ → List ℤ → Frame
-entered unit f args = entered_or f args (slice_get unit.funcs f)
+abbrev pub new_frame : TranslationUnit → ℕ → List ℤ → Frame
+new_frame unit f args = new_frame_or f args (slice_get unit.funcs f)
 
 -- the values of the front's expressions, or the first thing that stands in their way
 abbrev pub front_demand : TranslationUnit → Frame → Result (List ℤ) Demand
@@ -146,24 +146,24 @@ front_demand unit frame =
     (demands_of (front_exprs frame.todo) (func_slots unit frame.func) frame.slots frame.ins).0
 
 -- the frame after what stood in front is done, and this comes next
-abbrev pub goes_on : Frame → List Todo → Frame
-goes_on frame next = record frame { todo = unrolled next; ins = [] }
+abbrev pub frame_after : Frame → List Todo → Frame
+frame_after frame next = record frame { todo = unrolling next; ins = [] }
 
 abbrev pub rest_of : List Todo → List Todo
 rest_of [] = []
 rest_of (todo ∷ rest) = rest
 
 -- the frame after one more input came
-abbrev pub gets : Frame → ℤ → Frame
-gets frame n = record frame { ins = frame.ins ++ n ∷ [] }
+abbrev pub with_input : Frame → ℤ → Frame
+with_input frame n = record frame { ins = frame.ins ++ n ∷ [] }
 
 -- ---- one step
 
 -- what a step does: the frames of its thread after it, with an effect, or why there is no step
-pub data Does : Type 0 where
-  Goes : (frames : List Frame) → (effect : Effect Frame) → Does
-  Waits : Does
-  Fails : Does
+pub data FrameStep : Type 0 where
+  Goes : (frames : List Frame) → (effect : Effect Frame) → FrameStep
+  Waits : FrameStep
+  Fails : FrameStep
 
 -- where a step is made: by a thread of a configuration, with an input, in its topmost frame
 pub record Site : Type 0 where
@@ -179,39 +179,39 @@ abbrev pub only : List ℤ → ℤ
 only values = value_at values 0
 
 -- the frame goes on as it is, or with these slots
-abbrev pub passes : Site → List Todo → Does
-passes s next = Goes (goes_on s.frame next ∷ s.below) Keeps
+abbrev pub pass_step : Site → List Todo → FrameStep
+pass_step s next = Goes (frame_after s.frame next ∷ s.below) Keeps
 
-abbrev pub sets : Site → ℕ → ℤ → List Todo → Does
-sets s x n next =
-    let slots = stored (func_slots s.unit s.frame.func) x n s.frame.slots in
-    Goes (goes_on (record s.frame { slots = slots }) next ∷ s.below) Keeps
+abbrev pub store_step : Site → ℕ → ℤ → List Todo → FrameStep
+store_step s x n next =
+    let slots = with_slot (func_slots s.unit s.frame.func) x n s.frame.slots in
+    Goes (frame_after (record s.frame { slots = slots }) next ∷ s.below) Keeps
 
-abbrev pub affects : Site → List Todo → Effect Frame → Does
-affects s next effect = Goes (goes_on s.frame next ∷ s.below) effect
+abbrev pub effect_step : Site → List Todo → Effect Frame → FrameStep
+effect_step s next effect = Goes (frame_after s.frame next ∷ s.below) effect
 
 -- the number that a `return` hands to the caller; one without a value hands 0
-abbrev pub returned : Site → Option Expr → List ℤ → ℤ
-returned s (Some e) values = converted (slot_width (func_slots s.unit s.frame.func) 0) (only values)
-returned s None values = pos 0
+abbrev pub return_value : Site → Option Expr → List ℤ → ℤ
+return_value s (Some e) values = conversion (slot_width (func_slots s.unit s.frame.func) 0) (only values)
+return_value s None values = pos 0
 
 -- A caller goes on: where what stands in front lacks nothing, it is a plain call, and this was its
 -- call, so it is done; else its expressions get the number.
-abbrev pub resumed_by : Frame → ℤ → Result (List ℤ) Demand → Frame
-resumed_by caller n (Ok values) = goes_on caller (rest_of caller.todo)
-resumed_by caller n (Err demand) = gets caller n
+abbrev pub resumed_caller : Frame → ℤ → Result (List ℤ) Demand → Frame
+resumed_caller caller n (Ok values) = frame_after caller (rest_of caller.todo)
+resumed_caller caller n (Err demand) = with_input caller n
 
-abbrev pub resumed : TranslationUnit → Frame → ℤ → Frame
-resumed unit caller n = resumed_by caller n (front_demand unit caller)
+abbrev pub caller_after : TranslationUnit → Frame → ℤ → Frame
+caller_after unit caller n = resumed_caller caller n (front_demand unit caller)
 
 -- the topmost frame returns; the first frame's return ends the thread
-abbrev pub popped : TranslationUnit → List Frame → ℤ → List Frame
-popped unit [] n = []
-popped unit (caller ∷ below) n = resumed unit caller n ∷ below
+abbrev pub frames_after_return : TranslationUnit → List Frame → ℤ → List Frame
+frames_after_return unit [] n = []
+frames_after_return unit (caller ∷ below) n = caller_after unit caller n ∷ below
 
 -- what comes after a branch
-abbrev pub branch : ℤ → Placed → Option Placed → List Todo → List Todo
-branch n a b rest = if is_zero n then option_map_or (λ other. Do other ∷ rest) b rest else Do a ∷ rest
+abbrev pub after_branch : ℤ → Placed → Option Placed → List Todo → List Todo
+after_branch n a b rest = if is_zero n then option_map_or (λ other. Do other ∷ rest) b rest else Do a ∷ rest
 
 -- a loop's body, and what comes after it
 abbrev pub turn_of : Stmt-F Stmt Placed → Placed → List Todo → List Todo
@@ -222,8 +222,8 @@ turn_of (Stmt-F.For first test (Some last) body) own rest = Do body ∷ Last own
 turn_of other own rest = rest
 
 -- what comes after a loop's test
-abbrev pub tested : ℤ → Placed → List Todo → List Todo
-tested n own rest = if is_zero n then rest else turn_of (layer_of own) own rest
+abbrev pub after_test : ℤ → Placed → List Todo → List Todo
+after_test n own rest = if is_zero n then rest else turn_of (layer_of own) own rest
 
 abbrev pub is_over : List Frame → Bool
 is_over [] = true
@@ -233,70 +233,70 @@ is_over (frame ∷ below) = false
 abbrev pub has_ended : Config Frame → ℕ → Bool
 has_ended c t = option_map_or is_over (thread_at c.threads t) false
 
-abbrev pub joins : Site → Option ℕ → List Todo → Does
-joins s None next = Fails
-joins s (Some t) next = if has_ended s.config t then passes s next else Waits
+abbrev pub join_step : Site → Option ℕ → List Todo → FrameStep
+join_step s None next = Fails
+join_step s (Some t) next = if has_ended s.config t then pass_step s next else Waits
 
-abbrev pub locks : Site → ℕ → Option ℕ → List Todo → Does
-locks s m None next = affects s next (SetsOwner m (Some s.thread))
-locks s m (Some owner) next = Waits
+abbrev pub lock_step : Site → ℕ → Option ℕ → List Todo → FrameStep
+lock_step s m None next = effect_step s next (SetsOwner m (Some s.thread))
+lock_step s m (Some owner) next = Waits
 
-abbrev pub unlocks : Site → ℕ → Option ℕ → List Todo → Does
-unlocks s m None next = Fails
-unlocks s m (Some owner) next = if nat_eq owner s.thread then affects s next (SetsOwner m None) else Fails
+abbrev pub unlock_step : Site → ℕ → Option ℕ → List Todo → FrameStep
+unlock_step s m None next = Fails
+unlock_step s m (Some owner) next = if nat_eq owner s.thread then effect_step s next (SetsOwner m None) else Fails
 
-abbrev pub creates : Site → ℕ → ℕ → List Todo → Does
-creates s var f next =
+abbrev pub create_step : Site → ℕ → ℕ → List Todo → FrameStep
+create_step s var f next =
     let vars = slice_set s.frame.vars var (Some (next_thread s.config)) in
-    Goes (goes_on (record s.frame { vars = vars }) next ∷ s.below) (Starts (entered s.unit f []))
+    Goes (frame_after (record s.frame { vars = vars }) next ∷ s.below) (Starts (new_frame s.unit f []))
 
 -- What a statement does with the values of its expressions, where this comes after it. A block
 -- that stands in front is empty; a `do` and a `for` never stand there, since they are unrolled.
-abbrev pub stmt_does : Stmt-F Stmt Placed → Placed → List Todo → Site → List ℤ → Does
-stmt_does (Stmt-F.Declare x None) own rest s values = sets s x s.input rest
-stmt_does (Stmt-F.Declare x (Some e)) own rest s values = sets s x (only values) rest
-stmt_does (Stmt-F.DeclareThread var) own rest s values = passes s rest
-stmt_does (Stmt-F.Assign (Target.Local x) e) own rest s values = sets s x (only values) rest
-stmt_does (Stmt-F.Assign (Target.Global g) e) own rest s values =
-    affects s rest (SetsGlobal g (converted (global_width s.unit.globals g) (only values)))
-stmt_does (Stmt-F.CallOnly f args) own rest s values = Goes (entered s.unit f values ∷ s.frame ∷ s.below) Keeps
-stmt_does (Stmt-F.If e a b) own rest s values = passes s (branch (only values) a b rest)
-stmt_does (Stmt-F.While e body) own rest s values = passes s (tested (only values) own rest)
-stmt_does (Stmt-F.DoWhile body e) own rest s values = passes s rest
-stmt_does (Stmt-F.For first test last body) own rest s values = passes s rest
-stmt_does (Stmt-F.Block all) own rest s values = passes s rest
-stmt_does Stmt-F.Break own rest s values = passes s (after_break rest)
-stmt_does Stmt-F.Continue own rest s values = passes s (after_continue rest)
-stmt_does (Stmt-F.Return e) own rest s values = Goes (popped s.unit s.below (returned s e values)) Keeps
-stmt_does (Stmt-F.Create var f) own rest s values = creates s var f rest
-stmt_does (Stmt-F.Join var) own rest s values = joins s (slice_index_or s.frame.vars var None) rest
-stmt_does (Stmt-F.Lock m) own rest s values = locks s m (owner_at s.config m) rest
-stmt_does (Stmt-F.Unlock m) own rest s values = unlocks s m (owner_at s.config m) rest
-stmt_does (Stmt-F.Assert e) own rest s values = if is_zero (only values) then Fails else passes s rest
-stmt_does Stmt-F.Empty own rest s values = passes s rest
+abbrev pub stmt_step : Stmt-F Stmt Placed → Placed → List Todo → Site → List ℤ → FrameStep
+stmt_step (Stmt-F.Declare x None) own rest s values = store_step s x s.input rest
+stmt_step (Stmt-F.Declare x (Some e)) own rest s values = store_step s x (only values) rest
+stmt_step (Stmt-F.DeclareThread var) own rest s values = pass_step s rest
+stmt_step (Stmt-F.Assign (Target.Local x) e) own rest s values = store_step s x (only values) rest
+stmt_step (Stmt-F.Assign (Target.Global g) e) own rest s values =
+    effect_step s rest (SetsGlobal g (conversion (global_width s.unit.globals g) (only values)))
+stmt_step (Stmt-F.CallOnly f args) own rest s values = Goes (new_frame s.unit f values ∷ s.frame ∷ s.below) Keeps
+stmt_step (Stmt-F.If e a b) own rest s values = pass_step s (after_branch (only values) a b rest)
+stmt_step (Stmt-F.While e body) own rest s values = pass_step s (after_test (only values) own rest)
+stmt_step (Stmt-F.DoWhile body e) own rest s values = pass_step s rest
+stmt_step (Stmt-F.For first test last body) own rest s values = pass_step s rest
+stmt_step (Stmt-F.Block all) own rest s values = pass_step s rest
+stmt_step Stmt-F.Break own rest s values = pass_step s (after_break rest)
+stmt_step Stmt-F.Continue own rest s values = pass_step s (after_continue rest)
+stmt_step (Stmt-F.Return e) own rest s values = Goes (frames_after_return s.unit s.below (return_value s e values)) Keeps
+stmt_step (Stmt-F.Create var f) own rest s values = create_step s var f rest
+stmt_step (Stmt-F.Join var) own rest s values = join_step s (slice_index_or s.frame.vars var None) rest
+stmt_step (Stmt-F.Lock m) own rest s values = lock_step s m (owner_at s.config m) rest
+stmt_step (Stmt-F.Unlock m) own rest s values = unlock_step s m (owner_at s.config m) rest
+stmt_step (Stmt-F.Assert e) own rest s values = if is_zero (only values) then Fails else pass_step s rest
+stmt_step Stmt-F.Empty own rest s values = pass_step s rest
 
-abbrev pub last_does : Stmt-F Stmt Placed → List Todo → Site → List ℤ → Does
-last_does (Stmt-F.For first test (Some last) body) rest s values = stmt_does (layer_of last) last rest s values
-last_does other rest s values = passes s rest
+abbrev pub last_step : Stmt-F Stmt Placed → List Todo → Site → List ℤ → FrameStep
+last_step (Stmt-F.For first test (Some last) body) rest s values = stmt_step (layer_of last) last rest s values
+last_step other rest s values = pass_step s rest
 
-abbrev pub todo_does : Todo → List Todo → Site → List ℤ → Does
-todo_does (Do p) rest s values = stmt_does (layer_of p) p rest s values
-todo_does (Test p) rest s values = passes s (tested (only values) p rest)
-todo_does (Last p) rest s values = last_does (layer_of p) rest s values
+abbrev pub todo_step : Todo → List Todo → Site → List ℤ → FrameStep
+todo_step (Do p) rest s values = stmt_step (layer_of p) p rest s values
+todo_step (Test p) rest s values = pass_step s (after_test (only values) p rest)
+todo_step (Last p) rest s values = last_step (layer_of p) rest s values
 
 -- With all values the front is done. Else the step gets the first thing that is missing: a
 -- global's value now, the choice's input, or a call, which pushes a frame.
-abbrev pub front_does : Todo → List Todo → Site → Result (List ℤ) Demand → Does
-front_does todo rest s (Ok values) = todo_does todo rest s values
-front_does todo rest s (Err (Global g)) = Goes (gets s.frame (global_at s.config g) ∷ s.below) Keeps
-front_does todo rest s (Err (Nondet w)) = Goes (gets s.frame (converted w s.input) ∷ s.below) Keeps
-front_does todo rest s (Err (Call f args)) = Goes (entered s.unit f args ∷ s.frame ∷ s.below) Keeps
-front_does todo rest s (Err Fault) = Fails
+abbrev pub front_step : Todo → List Todo → Site → Result (List ℤ) Demand → FrameStep
+front_step todo rest s (Ok values) = todo_step todo rest s values
+front_step todo rest s (Err (Global g)) = Goes (with_input s.frame (global_at s.config g) ∷ s.below) Keeps
+front_step todo rest s (Err (Nondet w)) = Goes (with_input s.frame (conversion w s.input) ∷ s.below) Keeps
+front_step todo rest s (Err (Call f args)) = Goes (new_frame s.unit f args ∷ s.frame ∷ s.below) Keeps
+front_step todo rest s (Err Fault) = Fails
 
 -- a frame with nothing left to do, which no program has, returns 0
-abbrev pub frame_does : List Todo → Site → Does
-frame_does [] s = Goes (popped s.unit s.below (pos 0)) Keeps
-frame_does (todo ∷ rest) s = front_does todo rest s (front_demand s.unit s.frame)
+abbrev pub frame_step : List Todo → Site → FrameStep
+frame_step [] s = Goes (frames_after_return s.unit s.below (pos 0)) Keeps
+frame_step (todo ∷ rest) s = front_step todo rest s (front_demand s.unit s.frame)
 
 -- ---- the answers
 
@@ -308,22 +308,22 @@ pub data TreeStep : Type 0 where
   IsEnded : TreeStep
   HasNoThread : TreeStep
 
-abbrev pub stepped_by : Config Frame → ℕ → Does → TreeStep
-stepped_by c t (Goes frames effect) = MovesTo (applied c t frames effect)
-stepped_by c t Waits = IsBlocked
-stepped_by c t Fails = IsFaulted
+abbrev pub outcome_of : Config Frame → ℕ → FrameStep → TreeStep
+outcome_of c t (Goes frames effect) = MovesTo (after_effect c t frames effect)
+outcome_of c t Waits = IsBlocked
+outcome_of c t Fails = IsFaulted
 
 -- the order of the answers: no such thread; thread 1 or this one has ended; then what it does
-abbrev pub thread_steps : TranslationUnit → Config Frame → ℕ → ℤ → Option (List Frame) → TreeStep
-thread_steps unit c t input None = HasNoThread
-thread_steps unit c t input (Some []) = IsEnded
-thread_steps unit c t input (Some (frame ∷ below)) =
+abbrev pub thread_step : TranslationUnit → Config Frame → ℕ → ℤ → Option (List Frame) → TreeStep
+thread_step unit c t input None = HasNoThread
+thread_step unit c t input (Some []) = IsEnded
+thread_step unit c t input (Some (frame ∷ below)) =
     if has_ended c 1 then IsEnded else
-    stepped_by c t (frame_does frame.todo (record { unit = unit; config = c; thread = t; input = input; frame = frame; below = below }))
+    outcome_of c t (frame_step frame.todo (record { unit = unit; config = c; thread = t; input = input; frame = frame; below = below }))
 
 -- the step of a thread with an input
 abbrev pub tree_step : TranslationUnit → Config Frame → ℕ → ℤ → TreeStep
-tree_step unit c t input = thread_steps unit c t input (thread_at c.threads t)
+tree_step unit c t input = thread_step unit c t input (thread_at c.threads t)
 
 -- the answer as a word, and the configuration after it, which is the one before where nothing moved
 abbrev pub word_of : TreeStep → Stepped
@@ -342,4 +342,4 @@ after_step c HasNoThread = c
 
 -- the first configuration: thread 1 in `main`
 abbrev pub first_tree : TranslationUnit → Config Frame
-first_tree unit = first_config unit.globals unit.mutexes (entered unit unit.main [])
+first_tree unit = first_config unit.globals unit.mutexes (new_frame unit unit.main [])
