@@ -1,2 +1,5 @@
+pub mod DemandLaws
 pub mod Folds
+pub mod Induct
+pub mod StepLaws
 pub mod StmtFolds

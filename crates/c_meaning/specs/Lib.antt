@@ -3,6 +3,7 @@ pub mod Demand
 pub mod Examples
 pub mod Graph
 pub mod GraphStep
+pub mod Laws
 pub mod Run
 pub mod Tree
 pub mod Walk

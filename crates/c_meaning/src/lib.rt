@@ -5,6 +5,8 @@
 
 mod config;
 mod demand;
+mod laws;
 
 pub use config::{Choice, Stepped, Todo};
 pub use demand::Demand;
+pub use laws::{final_answers_stay, only_moves_change, prefixes_are_runs, steps_change_little};
