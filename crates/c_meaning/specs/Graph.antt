@@ -397,10 +397,14 @@ graph_of f = record {
   edges = map (λ d. d.edge) (draft_of f).drawn;
 }
 
--- whether the edge with this number is silent
-abbrev pub is_silent : Function → ℕ → Bool
-is_silent f e = option_map_or (λ d. d.silent) (slice_get (draft_of f).drawn e) false
-
 -- a unit's program: the graph of each function
 abbrev pub program_of : TranslationUnit → Program
 program_of unit = record { funcs = map graph_of unit.funcs; globals = unit.globals; mutexes = unit.mutexes; main = unit.main }
+
+-- a program, and of each function its edges with the marks of the silent ones
+pub record Marked : Type 0 where
+  pub program : Program
+  pub drawn : List (List Drawn)
+
+abbrev pub marked_of : TranslationUnit → Marked
+marked_of unit = record { program = program_of unit; drawn = map (λ f. (draft_of f).drawn) unit.funcs }

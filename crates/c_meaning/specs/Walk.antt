@@ -24,7 +24,7 @@ use Rattle.c_meaning.specs.declared.config.Choice.{Choice}
 use Rattle.c_meaning.specs.Demand.{with_slot}
 use Rattle.c_meaning.specs.Config.{Config, thread_at, next_thread}
 use Rattle.c_meaning.specs.Tree as Tree
-use Rattle.c_meaning.specs.Graph.{Draft, Drawn, Route, Hoisted, Lowering, lowering_of, next_node, with_node, hoisted_expr, if_head, while_head, body_route, for_first, for_head, condition, first_draft, first_route, draft_of, graph_slots, program_of}
+use Rattle.c_meaning.specs.Graph.{Draft, Drawn, Route, Hoisted, Lowering, lowering_of, next_node, with_node, hoisted_expr, if_head, while_head, body_route, for_first, for_head, condition, first_draft, first_route, draft_of, graph_slots, Marked, marked_of, program_of}
 use Rattle.c_meaning.specs.GraphStep as Graph
 use Rattle.c_meaning.specs.GraphStep.{Label, Do, Enter, Leave, local_slots, after_label, edge_at, first_graph}
 
@@ -115,16 +115,13 @@ pub record Moment : Type 0 where
   pub node : ℕ
   pub slots : List ℤ
 
--- the edge leaves the node silently
-abbrev pub leaves_silently : Drawn → ℕ → Bool
-leaves_silently d node = d.silent && nat_eq d.edge.from node
-
 abbrev pub moment_after : Edge → List ℤ → Moment
 moment_after edge slots = record { node = edge.to; slots = slots }
 
--- the slots after a silent edge from here, if the edge is one that can be done
-abbrev pub silent_act : List Slot → Drawn → Moment → Option (List ℤ)
-silent_act slots d m = if leaves_silently d m.node then local_slots slots d.edge.act m.slots else None
+-- the slots after a silent edge from here, if it is one and can be done
+abbrev pub silent_slots : List Slot → Drawn → Moment → Option (List ℤ)
+silent_slots slots d m =
+    if d.silent && nat_eq d.edge.from m.node then local_slots slots d.edge.act m.slots else None
 
 -- the first silent edge that leaves here and can be done, from the i-th on, and where it leads
 abbrev pub first_or : Drawn → ℕ → Option (ℕ × Moment) → Option (List ℤ) → Option (ℕ × Moment)
@@ -133,7 +130,7 @@ first_or d i later (Some slots) = Some (i, moment_after d.edge slots)
 
 abbrev pub silent_from : List Slot → List Drawn → ℕ → Moment → Option (ℕ × Moment)
 silent_from slots [] i m = None
-silent_from slots (d ∷ ds) i m = first_or d i (silent_from slots ds (i + 1) m) (silent_act slots d m)
+silent_from slots (d ∷ ds) i m = first_or d i (silent_from slots ds (i + 1) m) (silent_slots slots d m)
 
 -- The silent edges from here while one can be done, and where they lead. They form no circle, so
 -- there are no more of them than the function has edges.
@@ -147,12 +144,12 @@ abbrev pub settled_or : Moment → (Moment → Settled) → Option (ℕ × Momen
 settled_or m go None = ([], m)
 settled_or m go (Some next) = with_edge next.0 (go next.1)
 
-abbrev pub settled_in : List Slot → List Drawn → ℕ → Moment → Settled
-settled_in slots drawn zero m = ([], m)
-settled_in slots drawn (suc k) m = settled_or m (settled_in slots drawn k) (silent_from slots drawn 0 m)
+abbrev pub settled_within : ℕ → List Slot → List Drawn → Moment → Settled
+settled_within zero slots drawn m = ([], m)
+settled_within (suc k) slots drawn m = settled_or m (settled_within k slots drawn) (silent_from slots drawn 0 m)
 
-abbrev pub settled_from : Function → Moment → Settled
-settled_from f m = settled_in (graph_slots f) (draft_of f).drawn (length (draft_of f).drawn) m
+abbrev pub settled_from : List Slot → List Drawn → Moment → Settled
+settled_from slots drawn m = settled_within (length drawn) slots drawn m
 
 -- the temporary that an input goes to, and the node behind
 abbrev pub input_slot : Action → Option ℕ
@@ -172,14 +169,15 @@ abbrev pub input_from : List Drawn → ℕ → Option (ℕ × ℕ)
 input_from [] node = None
 input_from (d ∷ ds) node = input_or (input_edge d node) (input_from ds node)
 
-abbrev pub with_input : Function → ℤ → Moment → Option Moment
-with_input f n m =
-    option_map (λ to. record { node = to.1; slots = with_slot (graph_slots f) to.0 n m.slots }) (input_from (draft_of f).drawn m.node)
+abbrev pub moment_with_input : List Slot → List Drawn → ℤ → Moment → Option Moment
+moment_with_input slots drawn n m =
+    option_map (λ to. record { node = to.1; slots = with_slot slots to.0 n m.slots }) (input_from drawn m.node)
 
--- from a moment by each silent edge that can be done, and by one edge for each input
-abbrev pub moment_along : Function → List ℤ → Moment → Option Moment
-moment_along f [] m = Some (settled_from f m).1
-moment_along f (n ∷ ins) m = option_and_then (moment_along f ins) (with_input f n (settled_from f m).1)
+-- the moment that each silent edge that can be done and one edge for each input lead to
+abbrev pub moment_along : List Slot → List Drawn → List ℤ → Moment → Option Moment
+moment_along slots drawn [] m = Some (settled_from slots drawn m).1
+moment_along slots drawn (n ∷ ins) m =
+    option_and_then (moment_along slots drawn ins) (moment_with_input slots drawn n (settled_from slots drawn m).1)
 
 -- ---- standing
 
@@ -191,7 +189,9 @@ pub record StandsAt (f : Function) (todo : Todo) (named ins : List ℤ) (node : 
   pub begins : Contains (begun_of f) (todo, begin)
   pub room : length values ≡ length (graph_slots f)
   pub same_named : take (length f.slots) values ≡ named
-  pub along : moment_along f ins (record { node = begin; slots = values }) ≡ Some (record { node = node; slots = slots })
+  pub along :
+      moment_along (graph_slots f) (draft_of f).drawn ins (record { node = begin; slots = values })
+      ≡ Some (record { node = node; slots = slots })
 
 abbrev pub StandsInFront : Option Function → List Todo → List ℤ → List ℤ → ℕ → List ℤ → Type 0
 StandsInFront None todo named ins node slots = ⊥
@@ -205,7 +205,7 @@ pub record StandsFrame (unit : TranslationUnit) (t : Tree.Frame) (g : Graph.Fram
   pub named : take (length t.slots) g.slots ≡ t.slots
   pub front : StandsInFront (slice_get unit.funcs t.func) t.todo t.slots t.ins g.node g.slots
 
--- a frame that isn't the topmost waits at a call edge of the function above it, at its node
+-- a frame that isn't the topmost waits at a call edge that leaves its node, of the function above it
 pub record WaitsFor (program : Program) (g : Graph.Frame) (callee : ℕ) : Type 0 where
   pub edge : ℕ
   pub waits : g.waits ≡ Some edge
@@ -256,7 +256,8 @@ pub record Walked : Type 0 where
 -- the configuration after a thread takes these labels one after another
 abbrev pub after_labels : Program → ℕ → ℤ → List Label → Config Graph.Frame → Option (Config Graph.Frame)
 after_labels program t input [] c = Some c
-after_labels program t input (label ∷ labels) c = option_and_then (after_labels program t input labels) (after_label program c t input label)
+after_labels program t input (label ∷ labels) c =
+    option_and_then (after_labels program t input labels) (after_label program c t input label)
 
 abbrev pub moves_by : ℕ → List Label → List Move
 moves_by t = map (λ label. (t, label))
@@ -269,14 +270,17 @@ walk_on program t input labels w =
 abbrev pub frames_at : Walked → ℕ → List Graph.Frame
 frames_at w t = option_map_or (λ frames. frames) (thread_at w.config.threads t) []
 
--- the labels of the silent edges that a thread does while one can be done
-abbrev pub silent_labels : TranslationUnit → List Graph.Frame → List Label
-silent_labels unit [] = []
-silent_labels unit (frame ∷ below) =
-    option_map_or (λ f. map Do (settled_from f (record { node = frame.node; slots = frame.slots })).0) (slice_get unit.funcs frame.func) []
+abbrev pub drawn_at : Marked → ℕ → List Drawn
+drawn_at m f = option_map_or (λ drawn. drawn) (slice_get m.drawn f) []
 
-abbrev pub after_silent : TranslationUnit → ℕ → Walked → Option Walked
-after_silent unit t w = walk_on (program_of unit) t (pos 0) (silent_labels unit (frames_at w t)) w
+-- the labels of the silent edges that a thread does while one can be done
+abbrev pub silent_labels : Marked → List Graph.Frame → List Label
+silent_labels m [] = []
+silent_labels m (frame ∷ below) =
+    map Do (settled_from (Graph.func_slots m.program frame.func) (drawn_at m frame.func) (record { node = frame.node; slots = frame.slots })).0
+
+abbrev pub after_silent : Marked → ℕ → Walked → Option Walked
+after_silent m t w = walk_on m.program t (pos 0) (silent_labels m (frames_at w t)) w
 
 -- a frame that isn't the first and has come to node 1 is left
 abbrev pub return_labels : List Graph.Frame → List Label
@@ -284,8 +288,8 @@ return_labels [] = []
 return_labels (frame ∷ []) = []
 return_labels (frame ∷ caller ∷ below) = if nat_eq frame.node 1 then Leave ∷ [] else []
 
-abbrev pub after_return : TranslationUnit → ℕ → Walked → Option Walked
-after_return unit t w = walk_on (program_of unit) t (pos 0) (return_labels (frames_at w t)) w
+abbrev pub after_return : Marked → ℕ → Walked → Option Walked
+after_return m t w = walk_on m.program t (pos 0) (return_labels (frames_at w t)) w
 
 -- the label of an edge, and whether a thread begins by it
 abbrev pub label_of : ℕ → Action → Label
@@ -297,57 +301,59 @@ starts_thread (Create var f) = true
 starts_thread other = false
 
 -- a new thread begins with its own silent edges
-abbrev pub after_start : TranslationUnit → ℕ → Bool → Walked → Option Walked
-after_start unit t true w = after_silent unit t w
-after_start unit t false w = Some w
+abbrev pub after_start : Marked → ℕ → Bool → Walked → Option Walked
+after_start m t true w = after_silent m t w
+after_start m t false w = Some w
 
--- the run after an edge that isn't silent, and the edge's action
-abbrev pub Stepped : Type 0
-Stepped = Option (Action × Walked)
+-- an edge that isn't silent: its action, and the run after it
+abbrev pub EdgeStep : Type 0
+EdgeStep = Option (Action × Walked)
 
-abbrev pub edge_taken : TranslationUnit → ℕ → ℤ → Walked → ℕ → Drawn → Stepped
-edge_taken unit t input w e d =
+abbrev pub edge_step : Marked → ℕ → ℤ → Walked → ℕ → Drawn → EdgeStep
+edge_step m t input w e d =
     if d.silent then None else
-    option_map (λ next. (d.edge.act, next)) (walk_on (program_of unit) t input (label_of e d.edge.act ∷ []) w)
+    option_map (λ next. (d.edge.act, next)) (walk_on m.program t input (label_of e d.edge.act ∷ []) w)
 
-abbrev pub taken_or : Stepped → Stepped → Stepped
-taken_or None later = later
-taken_or (Some s) later = Some s
+abbrev pub edge_step_or : EdgeStep → EdgeStep → EdgeStep
+edge_step_or None later = later
+edge_step_or (Some s) later = Some s
 
 -- the first edge from the e-th on that isn't silent and can be taken
-abbrev pub first_taken : TranslationUnit → ℕ → ℤ → Walked → ℕ → List Drawn → Stepped
-first_taken unit t input w e [] = None
-first_taken unit t input w e (d ∷ ds) = taken_or (edge_taken unit t input w e d) (first_taken unit t input w (e + 1) ds)
+abbrev pub first_edge_step : Marked → ℕ → ℤ → Walked → ℕ → List Drawn → EdgeStep
+first_edge_step m t input w e [] = None
+first_edge_step m t input w e (d ∷ ds) = edge_step_or (edge_step m t input w e d) (first_edge_step m t input w (e + 1) ds)
 
-abbrev pub drawn_of : TranslationUnit → List Graph.Frame → List Drawn
-drawn_of unit [] = []
-drawn_of unit (frame ∷ below) = option_map_or (λ f. (draft_of f).drawn) (slice_get unit.funcs frame.func) []
+abbrev pub top_drawn : Marked → List Graph.Frame → List Drawn
+top_drawn m [] = []
+top_drawn m (frame ∷ below) = drawn_at m frame.func
 
 -- what follows the edge: the return, the silent edges of the thread, and those of a new thread
-abbrev pub step_rest : TranslationUnit → ℕ → ℕ → Action × Walked → Option Walked
-step_rest unit t fresh s =
-    option_and_then (after_start unit fresh (starts_thread s.0))
-        (option_and_then (after_silent unit t) (after_return unit t s.1))
+abbrev pub step_rest : Marked → ℕ → ℕ → Action × Walked → Option Walked
+step_rest m t fresh s =
+    option_and_then (after_start m fresh (starts_thread s.0)) (option_and_then (after_silent m t) (after_return m t s.1))
 
 -- the part of a graph's run that is one step of the tree
-abbrev pub after_choice : TranslationUnit → Choice → Walked → Option Walked
-after_choice unit choice w =
-    option_and_then (step_rest unit choice.thread (next_thread w.config))
-        (first_taken unit choice.thread choice.input w 0 (drawn_of unit (frames_at w choice.thread)))
+abbrev pub after_choice : Marked → Choice → Walked → Option Walked
+after_choice m choice w =
+    option_and_then (step_rest m choice.thread (next_thread w.config))
+        (first_edge_step m choice.thread choice.input w 0 (top_drawn m (frames_at w choice.thread)))
 
-abbrev pub after_choices : TranslationUnit → List Choice → Walked → Option Walked
-after_choices unit [] w = Some w
-after_choices unit (choice ∷ choices) w = option_and_then (after_choices unit choices) (after_choice unit choice w)
+abbrev pub after_choices : Marked → List Choice → Walked → Option Walked
+after_choices m [] w = Some w
+after_choices m (choice ∷ choices) w = option_and_then (after_choices m choices) (after_choice m choice w)
 
 -- the run of a graph that goes with a run of the tree; thread 1 begins with its silent edges
-abbrev pub graph_run : TranslationUnit → List Choice → Option Walked
-graph_run unit choices =
-    option_and_then (after_choices unit choices) (after_silent unit 1 (record { moves = []; config = first_graph (program_of unit) }))
+abbrev pub graph_run : Marked → List Choice → Option Walked
+graph_run m choices =
+    option_and_then (after_choices m choices) (after_silent m 1 (record { moves = []; config = first_graph m.program }))
 
 -- the labels of one thread among moves
 abbrev pub labels_by : ℕ → List Move → List Label
 labels_by t moves = map (λ move. move.1) (filter (λ move. nat_eq move.0 t) moves)
 
+abbrev pub walk_in : Marked → List Choice → ℕ → List Label
+walk_in m choices t = option_map_or (λ w. labels_by t w.moves) (graph_run m choices) []
+
 -- the labels by which a thread goes through a run
 abbrev pub walk_of : TranslationUnit → List Choice → ℕ → List Label
-walk_of unit choices t = option_map_or (λ w. labels_by t w.moves) (graph_run unit choices) []
+walk_of unit = walk_in (marked_of unit)
