@@ -1,5 +1,6 @@
 pub mod DemandLaws
 pub mod Evaluation
+pub mod ExampleProofs
 pub mod Folds
 pub mod Fronts
 pub mod Induct

@@ -382,20 +382,27 @@ draft_of f = sequence (map lowering_of f.body) first_route (first_draft f)
 abbrev pub temporary : Width → Slot
 temporary w = record { name = []; width = w }
 
-abbrev pub graph_slots : Function → List Slot
-graph_slots f = f.slots ++ map temporary (draft_of f).temps
+abbrev pub slots_with : Function → Draft → List Slot
+slots_with f d = f.slots ++ map temporary d.temps
 
--- the graph of a function
-abbrev pub graph_of : Function → FuncGraph
-graph_of f = record {
+-- a function's graph by what is drawn of it
+abbrev pub graph_with : Function → Draft → FuncGraph
+graph_with f d = record {
   name = f.name;
   kind = f.kind;
   params = f.params;
-  slots = graph_slots f;
+  slots = slots_with f d;
   threads = f.threads;
-  nodes = (draft_of f).nodes;
-  edges = map (λ d. d.edge) (draft_of f).drawn;
+  nodes = d.nodes;
+  edges = map (λ drawn. drawn.edge) d.drawn;
 }
+
+-- the slots of a function's graph, and the graph
+abbrev pub graph_slots : Function → List Slot
+graph_slots f = slots_with f (draft_of f)
+
+abbrev pub graph_of : Function → FuncGraph
+graph_of f = graph_with f (draft_of f)
 
 -- a unit's program: the graph of each function
 abbrev pub program_of : TranslationUnit → Program

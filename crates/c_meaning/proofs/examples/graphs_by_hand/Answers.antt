@@ -1,0 +1,14 @@
+use Rattle.c_meaning.proofs.ExampleProofs as examples
+use Rattle.c_meaning.proofs.examples.graphs_by_hand.Goals as goal
+
+pub returns-clause-counting : goal.returns-clause-counting
+returns-clause-counting c = examples.counting_graph
+
+pub returns-clause-two_reads : goal.returns-clause-two_reads
+returns-clause-two_reads c = examples.two_reads
+
+pub returns-clause-and_with_input : goal.returns-clause-and_with_input
+returns-clause-and_with_input c = examples.and_with_input
+
+pub returns-clause-bare_for_and_do : goal.returns-clause-bare_for_and_do
+returns-clause-bare_for_and_do c = examples.bare_for_and_do
