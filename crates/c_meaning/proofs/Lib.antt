@@ -3,6 +3,7 @@ pub mod Evaluation
 pub mod ExampleProofs
 pub mod Folds
 pub mod Fronts
+pub mod Growth
 pub mod Induct
 pub mod Lowerings
 pub mod StepLaws

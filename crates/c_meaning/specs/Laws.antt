@@ -1,7 +1,9 @@
 -- Laws of the definitions.
-use Rattle.std.specs.Prelude.{◌≡◌, ◌≢◌, ℕ, ℤ, List, [], ◌∷◌, ◌++◌, Option, Result, Ok, Err, slice_set}
+use Rattle.std.specs.Prelude.{◌≡◌, ◌≢◌, ℕ, ℤ, true, List, [], ◌∷◌, ◌++◌, Option, Result, Ok, Err, slice_set}
 use Rattle.gob_tree.specs.declared.expr.Expr.{Expr}
+use Rattle.std.specs.List.{Contains}
 use Rattle.gob_tree.specs.declared.unit.Slot.{Slot}
+use Rattle.gob_tree.specs.declared.unit.Function.{Function}
 use Rattle.gob_tree.specs.declared.unit.Unit.{Unit as TranslationUnit}
 use Rattle.c_meaning.specs.declared.config.Choice.{Choice}
 use Rattle.c_meaning.specs.declared.config.Stepped.TheVariants.{Moved}
@@ -11,6 +13,7 @@ use Rattle.c_meaning.specs.Demand.{demand_of}
 use Rattle.c_meaning.specs.Config.{Config, with_thread}
 use Rattle.c_meaning.specs.Tree.{Frame, MovesTo, tree_step, word_of, after_step}
 use Rattle.c_meaning.specs.Run.{IsRun}
+use Rattle.c_meaning.specs.Graph.{Drawn, draft_of}
 
 -- an answer that no input would change: a value or a fault
 abbrev pub IsFinal : {A : Type 0} → Result A Demand → Type 0
@@ -51,3 +54,12 @@ abbrev pub PrefixesAreRuns : Type 0
 PrefixesAreRuns =
     (unit : TranslationUnit) (first later : List Choice) (last : Config Frame)
     → IsRun unit (first ++ later) last → (middle : Config Frame) × IsRun unit first middle
+
+-- a path of one silent edge or more
+pub data SilentPath (drawn : List Drawn) : ℕ → ℕ → Type 0 where
+  last_edge : (d : Drawn) → Contains drawn d → d.silent ≡ true → SilentPath drawn d.edge.from d.edge.to
+  first_edge : (d : Drawn) → (to : ℕ) → Contains drawn d → d.silent ≡ true → SilentPath drawn d.edge.to to → SilentPath drawn d.edge.from to
+
+-- the silent edges of a function form no circle
+abbrev pub SilentEdgesEnd : Type 0
+SilentEdgesEnd = (f : Function) (node : ℕ) → ¬ SilentPath (draft_of f).drawn node node
