@@ -141,87 +141,92 @@ Below d = Ends (λ from to. (from < next_node d) × (to < next_node d)) d.drawn
 
 -- What is added from a node on, where the nodes from n on are new: silent edges lead to new nodes
 -- only, from this node or from new ones.
-pub record Grown (n at : ℕ) (d d' : Draft) : Type 0 where
+abbrev pub IsNew : ℕ → ℕ → ℕ → ℕ → ℕ → Type 0
+IsNew n at m from to = (n ≤ to) × ((from ≡ at) ⊎ (n ≤ from)) × (from < m) × (to < m)
+
+pub record Adds (n at : ℕ) (d d' : Draft) : Type 0 where
   pub added : List Drawn
   pub drawn : d'.drawn ≡ d.drawn ++ added
   pub nodes : next_node d ≤ next_node d'
-  pub ends : Ends (λ from to. (n ≤ to) × ((from ≡ at) ⊎ (n ≤ from)) × (from < next_node d') × (to < next_node d')) added
+  pub ends : Ends (IsNew n at (next_node d')) added
+
+-- what is added keeps a rank
+pub record Grown (n at : ℕ) (d d' : Draft) : Type 0 where
+  pub adds : Adds n at d d'
   pub ranked : Below d → Ranked d.drawn → Ranked d'.drawn
 
-pub grown_below : (n at : ℕ) (d d' : Draft) → Grown n at d d' → Below d → Below d'
-grown_below n at d d' g b =
+pub adds_below : (n at : ℕ) (d d' : Draft) → Adds n at d d' → Below d → Below d'
+adds_below n at d d' g b =
     subst (Ends (λ from to. (from < next_node d') × (to < next_node d'))) (sym g.drawn)
         (ends_append (λ from to. (from < next_node d') × (to < next_node d')) d.drawn g.added
             (ends_map (λ from to. (from < next_node d) × (to < next_node d)) (λ from to. (from < next_node d') × (to < next_node d')) (λ from to e. let k = g.nodes in (omega (arith, e.0, k), omega (arith, e.1, k))) d.drawn b)
-            (ends_map (λ from to. (n ≤ to) × ((from ≡ at) ⊎ (n ≤ from)) × (from < next_node d') × (to < next_node d')) (λ from to. (from < next_node d') × (to < next_node d')) (λ from to e. (e.2, e.3)) g.added g.ends))
+            (ends_map (IsNew n at (next_node d')) (λ from to. (from < next_node d') × (to < next_node d')) (λ from to e. (e.2, e.3)) g.added g.ends))
 
-pub grown_none : (n at : ℕ) (d : Draft) → Grown n at d d
-grown_none n at d = record { added = []; drawn = append_nil d.drawn; nodes = omega arith; ends = tt; ranked = λ b r. r }
-  where
-    append_nil : (xs : List Drawn) → xs ≡ xs ++ []
-    append_nil [] = refl
-    append_nil (x ∷ xs) = ap (λ l. x ∷ l) (append_nil xs)
+pub append_nil : (xs : List Drawn) → xs ≡ xs ++ []
+append_nil [] = refl
+append_nil (x ∷ xs) = ap (λ l. x ∷ l) (append_nil xs)
 
-pub grown_then : (n at : ℕ) (a b c : Draft) → Grown n at a b → Grown n at b c → Grown n at a c
-grown_then n at a b c g h = record {
+pub adds_none : (n at : ℕ) (d : Draft) → Adds n at d d
+adds_none n at d = record { added = []; drawn = append_nil d.drawn; nodes = omega arith; ends = tt }
+
+pub adds_then : (n at : ℕ) (a b c : Draft) → Adds n at a b → Adds n at b c → Adds n at a c
+adds_then n at a b c g h = record {
   added = g.added ++ h.added;
   drawn = h.drawn ∙ ap (λ (l : List Drawn). l ++ h.added) g.drawn ∙ append_assoc a.drawn g.added h.added;
   nodes = let p = g.nodes in let q = h.nodes in omega (arith, p, q);
-  ends = ends_append (λ from to. (n ≤ to) × ((from ≡ at) ⊎ (n ≤ from)) × (from < next_node c) × (to < next_node c)) g.added h.added
-      (ends_map (λ from to. (n ≤ to) × ((from ≡ at) ⊎ (n ≤ from)) × (from < next_node b) × (to < next_node b)) (λ from to. (n ≤ to) × ((from ≡ at) ⊎ (n ≤ from)) × (from < next_node c) × (to < next_node c))
-          (λ from to e. let q = h.nodes in (e.0, e.1, omega (arith, e.2, q), omega (arith, e.3, q))) g.added g.ends)
+  ends = ends_append (IsNew n at (next_node c)) g.added h.added
+      (ends_map (IsNew n at (next_node b)) (IsNew n at (next_node c)) (λ from to e. let q = h.nodes in (e.0, e.1, omega (arith, e.2, q), omega (arith, e.3, q))) g.added g.ends)
       h.ends;
-  ranked = λ below r. h.ranked (grown_below n at a b g below) (g.ranked below r);
 }
 
 -- what is new from m on and from a node that is new from n on is new from n on
-pub grown_from : (n m at at' : ℕ) (d d' : Draft) → n ≤ m → (at' ≡ at) ⊎ (n ≤ at') → Grown m at' d d' → Grown n at d d'
-grown_from n m at at' d d' le where_from g = record {
+pub adds_from : (n m at at' : ℕ) (d d' : Draft) → n ≤ m → (at' ≡ at) ⊎ (n ≤ at') → Adds m at' d d' → Adds n at d d'
+adds_from n m at at' d d' le where_from g = record {
   added = g.added;
   drawn = g.drawn;
   nodes = g.nodes;
-  ends = ends_map (λ from to. (m ≤ to) × ((from ≡ at') ⊎ (m ≤ from)) × (from < next_node d') × (to < next_node d')) (λ from to. (n ≤ to) × ((from ≡ at) ⊎ (n ≤ from)) × (from < next_node d') × (to < next_node d'))
-      (λ from to e. (omega (arith, e.0), start from e.1, e.2, e.3)) g.added g.ends;
-  ranked = g.ranked;
+  ends = ends_map (IsNew m at' (next_node d')) (IsNew n at (next_node d')) (λ from to e. (omega (arith, e.0), start from e.1, e.2, e.3)) g.added g.ends;
 }
   where
     start : (from : ℕ) → (from ≡ at') ⊎ (m ≤ from) → (from ≡ at) ⊎ (n ≤ from)
     start from = ⊎_elim (λ e. ⊎_elim (λ q. inl (e ∙ q)) (λ q. inr (omega (arith, e, q))) where_from) (λ q. inr (omega (arith, q)))
 
--- a new node
-pub grown_node : (n at : ℕ) (d : Draft) (place : Place) → Grown n at d (with_node place d)
-grown_node n at d place = record {
-  added = [];
-  drawn = append_nil d.drawn;
-  nodes = let e = length-append d.nodes (place ∷ []) in omega (arith, e);
-  ends = tt;
-  ranked = λ b r. r;
-}
-  where
-    append_nil : (xs : List Drawn) → xs ≡ xs ++ []
-    append_nil [] = refl
-    append_nil (x ∷ xs) = ap (λ l. x ∷ l) (append_nil xs)
+pub adds_node : (n at : ℕ) (d : Draft) (place : Place) → Adds n at d (with_node place d)
+adds_node n at d place = record { added = []; drawn = append_nil d.drawn; nodes = let e = length-append d.nodes (place ∷ []) in omega (arith, e); ends = tt }
 
 pub node_more : (d : Draft) (place : Place) → next_node (with_node place d) ≡ next_node d + 1
 node_more d place = length-append d.nodes (place ∷ [])
 
--- an edge that isn't silent
-pub grown_edge : (n at : ℕ) (d : Draft) (from : ℕ) (act : Action) (to : ℕ) → Grown n at d (with_edge from act to d)
-grown_edge n at d from act to = record {
+pub adds_edge : (n at : ℕ) (d : Draft) (from : ℕ) (act : Action) (to : ℕ) → Adds n at d (with_edge from act to d)
+adds_edge n at d from act to = record {
   added = record { edge = record { from = from; act = act; to = to }; silent = false } ∷ [];
   drawn = refl;
   nodes = omega arith;
   ends = ((λ s. cc), tt);
-  ranked = λ b r. ranked_loud d.drawn _ refl r;
 }
 
--- a silent edge, where one of the two ways to rank it is open
-pub grown_silent : (n at : ℕ) (d : Draft) (from : ℕ) (act : Action) (to : ℕ) → n ≤ to → (from ≡ at) ⊎ (n ≤ from) → from < next_node d → to < next_node d
-    → (Below d → Ranked d.drawn → Ranked (with_silent from act to d).drawn) → Grown n at d (with_silent from act to d)
-grown_silent n at d from act to new start from_there to_there ranked = record {
+pub adds_silent : (n at : ℕ) (d : Draft) (from : ℕ) (act : Action) (to : ℕ) → IsNew n at (next_node d) from to → Adds n at d (with_silent from act to d)
+adds_silent n at d from act to new = record {
   added = record { edge = record { from = from; act = act; to = to }; silent = true } ∷ [];
   drawn = refl;
   nodes = omega arith;
-  ends = ((λ s. (new, start, from_there, to_there)), tt);
-  ranked = ranked;
+  ends = ((λ s. new), tt);
 }
+
+pub grown_none : (n at : ℕ) (d : Draft) → Grown n at d d
+grown_none n at d = record { adds = adds_none n at d; ranked = λ b r. r }
+
+pub grown_then : (n at : ℕ) (a b c : Draft) → Grown n at a b → Grown n at b c → Grown n at a c
+grown_then n at a b c g h = record {
+  adds = adds_then n at a b c g.adds h.adds;
+  ranked = λ below r. h.ranked (adds_below n at a b g.adds below) (g.ranked below r);
+}
+
+pub grown_from : (n m at at' : ℕ) (d d' : Draft) → n ≤ m → (at' ≡ at) ⊎ (n ≤ at') → Grown m at' d d' → Grown n at d d'
+grown_from n m at at' d d' le where_from g = record { adds = adds_from n m at at' d d' le where_from g.adds; ranked = g.ranked }
+
+pub grown_node : (n at : ℕ) (d : Draft) (place : Place) → Grown n at d (with_node place d)
+grown_node n at d place = record { adds = adds_node n at d place; ranked = λ b r. r }
+
+pub grown_edge : (n at : ℕ) (d : Draft) (from : ℕ) (act : Action) (to : ℕ) → Grown n at d (with_edge from act to d)
+grown_edge n at d from act to = record { adds = adds_edge n at d from act to; ranked = λ b r. ranked_loud d.drawn _ refl r }

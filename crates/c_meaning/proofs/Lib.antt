@@ -6,5 +6,6 @@ pub mod Fronts
 pub mod Growth
 pub mod Induct
 pub mod Lowerings
+pub mod SilentHoists
 pub mod StepLaws
 pub mod StmtFolds
