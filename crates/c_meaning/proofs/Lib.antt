@@ -7,5 +7,6 @@ pub mod Growth
 pub mod Induct
 pub mod Lowerings
 pub mod SilentHoists
+pub mod SilentStmts
 pub mod StepLaws
 pub mod StmtFolds

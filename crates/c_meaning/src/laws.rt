@@ -1,4 +1,4 @@
-ghost use Rattle.c_meaning.specs.Laws.{FinalStays, StepsChangeLittle, OnlyMovesChange, PrefixesAreRuns};
+ghost use Rattle.c_meaning.specs.Laws.{FinalStays, SilentEdgesEnd, StepsChangeLittle, OnlyMovesChange, PrefixesAreRuns};
 
 /// Where an expression has a value or faults, it does the same with more inputs behind.
 pub fn final_answers_stay()
@@ -22,5 +22,12 @@ pub fn only_moves_change()
 /// A prefix of a run is a run.
 pub fn prefixes_are_runs()
     ensures { PrefixesAreRuns }
+{
+}
+
+/// The silent edges of a function form no circle, so a thread does finitely many one after
+/// another.
+pub fn silent_edges_end()
+    ensures { SilentEdgesEnd }
 {
 }
