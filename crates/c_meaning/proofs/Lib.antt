@@ -8,5 +8,6 @@ pub mod Induct
 pub mod Lowerings
 pub mod SilentHoists
 pub mod SilentStmts
+pub mod Settling
 pub mod StepLaws
 pub mod StmtFolds

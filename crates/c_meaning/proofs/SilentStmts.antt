@@ -339,7 +339,7 @@ every_grows (p ∷ ps) = (lowerings_grow p, every_grows ps)
 first_ranked : (f : Function) → Ranked (first_draft f).drawn
 first_ranked f = record { rank = λ n. n; rises = ((λ s. omega arith), tt) }
 
-function_ranked : (f : Function) → Ranked (draft_of f).drawn
+pub function_ranked : (f : Function) → Ranked (draft_of f).drawn
 function_ranked f = (sequence_grows (map lowering_of f.body) (every_grows f.body) first_route (first_draft f) (omega arith)).ranked ((λ s. (omega arith, omega arith)), tt) (first_ranked f)
 
 -- a path of silent edges leads to a higher rank

@@ -1,5 +1,5 @@
 -- Laws of the definitions.
-use Rattle.std.specs.Prelude.{◌≡◌, ◌≢◌, ℕ, ℤ, true, List, [], ◌∷◌, ◌++◌, Option, Result, Ok, Err, slice_set}
+use Rattle.std.specs.Prelude.{◌≡◌, ◌≢◌, ℕ, ℤ, true, List, [], ◌∷◌, ◌++◌, Option, None, Result, Ok, Err, slice_set}
 use Rattle.gob_tree.specs.declared.expr.Expr.{Expr}
 use Rattle.std.specs.List.{Contains}
 use Rattle.gob_tree.specs.declared.unit.Slot.{Slot}
@@ -13,7 +13,8 @@ use Rattle.c_meaning.specs.Demand.{demand_of}
 use Rattle.c_meaning.specs.Config.{Config, with_thread}
 use Rattle.c_meaning.specs.Tree.{Frame, MovesTo, tree_step, word_of, after_step}
 use Rattle.c_meaning.specs.Run.{IsRun}
-use Rattle.c_meaning.specs.Graph.{Drawn, draft_of}
+use Rattle.c_meaning.specs.Graph.{Drawn, draft_of, graph_slots}
+use Rattle.c_meaning.specs.Walk.{Moment, silent_from, settled_from}
 
 -- an answer that no input would change: a value or a fault
 abbrev pub IsFinal : {A : Type 0} → Result A Demand → Type 0
@@ -63,3 +64,9 @@ pub data SilentPath (drawn : List Drawn) : ℕ → ℕ → Type 0 where
 -- the silent edges of a function form no circle
 abbrev pub SilentEdgesEnd : Type 0
 SilentEdgesEnd = (f : Function) (node : ℕ) → ¬ SilentPath (draft_of f).drawn node node
+
+-- where a thread has done silent edges while it could, no silent edge can be done
+abbrev pub SilentEdgesRunOut : Type 0
+SilentEdgesRunOut =
+    (f : Function) (m : Moment)
+    → silent_from (graph_slots f) (draft_of f).drawn 0 (settled_from (graph_slots f) (draft_of f).drawn m).1 ≡ None

@@ -1,4 +1,4 @@
-ghost use Rattle.c_meaning.specs.Laws.{FinalStays, SilentEdgesEnd, StepsChangeLittle, OnlyMovesChange, PrefixesAreRuns};
+ghost use Rattle.c_meaning.specs.Laws.{FinalStays, SilentEdgesEnd, SilentEdgesRunOut, StepsChangeLittle, OnlyMovesChange, PrefixesAreRuns};
 
 /// Where an expression has a value or faults, it does the same with more inputs behind.
 pub fn final_answers_stay()
@@ -29,5 +29,11 @@ pub fn prefixes_are_runs()
 /// another.
 pub fn silent_edges_end()
     ensures { SilentEdgesEnd }
+{
+}
+
+/// A thread that does silent edges while one can be done comes to where none can.
+pub fn silent_edges_run_out()
+    ensures { SilentEdgesRunOut }
 {
 }
