@@ -20,4 +20,4 @@ pub ruleset steps = (expressions, layers, fronts, frame_step, front_demand, dema
 
 pub ruleset statements = (fold-struct, fold-Declare, fold-DeclareThread, fold-Assign, fold-CallOnly, fold-If, fold-While, fold-DoWhile, fold-For, fold-Block, fold-Break, fold-Continue, fold-Return, fold-Create, fold-Join, fold-Lock, fold-Unlock, fold-Assert, fold-Empty)
 
-pub ruleset edges = (expressions, after_choice, first_edge_step, edge_step, edge_step_or, step_rest, walk_on, after_labels, after_silent, silent_labels, settled_from, settled_within, settled_or, silent_from, first_or, silent_slots, local_slots, after_label, thread_after, site_after, after_edge, action_effect, value_of, demand_of, option_map, option_and_then)
+pub ruleset edges = (expressions, after_choice, first_edge_step, edge_step, edge_step_or, step_rest, walk_on, after_labels, after_silent, silent_labels, settled_from, settled_within, settled_or, silent_from, first_or, silent_slots, local_slots, after_label, thread_after, site_after, after_edge, action_effect, values_of, demands_of, value_of, demand_of, option_map, option_and_then)

@@ -1,9 +1,12 @@
 pub mod Config
 pub mod Demand
-pub mod Examples
 pub mod Graph
+pub mod GraphExamples
 pub mod GraphStep
 pub mod Laws
 pub mod Run
+pub mod Samples
+pub mod StepExamples
 pub mod Tree
 pub mod Walk
+pub mod WalkExamples

@@ -1,4 +1,4 @@
-use Rattle.c_meaning.proofs.ExampleProofs as examples
+use Rattle.c_meaning.proofs.StepExampleProofs as examples
 use Rattle.c_meaning.proofs.examples.expressions_by_hand.Goals as goal
 
 pub returns-clause-division_by_zero : goal.returns-clause-division_by_zero
