@@ -7,6 +7,7 @@ pub mod GraphExampleProofs
 pub mod Growth
 pub mod Induct
 pub mod Lowerings
+pub mod RowProofs
 pub mod SilentHoists
 pub mod SilentStmts
 pub mod Settling

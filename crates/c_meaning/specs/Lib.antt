@@ -4,6 +4,7 @@ pub mod Graph
 pub mod GraphExamples
 pub mod GraphStep
 pub mod Laws
+pub mod Rows
 pub mod Run
 pub mod Samples
 pub mod StepExamples
