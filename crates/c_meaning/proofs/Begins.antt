@@ -1,9 +1,9 @@
 -- What begins in a statement, one level down.
-use Rattle.std.proofs.Common.{◌≡◌, refl, sym, ap, ◌∙◌, List}
+use Rattle.std.proofs.Common.{◌≡◌, sym, ap, ◌∙◌, List}
 use Rattle.gob_tree.specs.declared.place.Place.{Place}
-use Rattle.gob_tree.specs.declared.stmt.Stmt.{Stmt, out-Stmt, roll-Stmt, roll-out-Stmt, map-Stmt, para-Stmt, para-roll-Stmt}
+use Rattle.gob_tree.specs.declared.stmt.Stmt.{Stmt, out-Stmt, roll-out-Stmt, map-Stmt, para-Stmt, para-roll-Stmt}
 use Rattle.gob_tree.specs.declared.stmt.Stmt.TheOpen.{Stmt-F}
-use Rattle.gob_tree.specs.declared.stmt.Placed.{Placed, para-Placed, para-roll-Placed}
+use Rattle.gob_tree.specs.declared.stmt.Placed.{Placed, para-roll-Placed}
 use Rattle.c_meaning.specs.Graph.{Draft, Route}
 use Rattle.c_meaning.specs.Walk.{Begun, Beginning, stmt_begun, placed_begun, begun_in}
 
@@ -18,4 +18,4 @@ pub begun_is : (place : Place) (s : Stmt) (r : Route) (d : Draft) → begun_in (
 begun_is place s r d =
     ap (λ (f : Inner). f r d) (para-roll-Placed (Placed → Inner) Inner stmt_begun placed_begun (record { place = place; stmt = s }))
     ∙ ap (λ (f : Placed → Inner). f (record { place = place; stmt = s }) r d)
-        (ap (para-Stmt (Placed → Inner) Inner stmt_begun placed_begun) (sym (roll-out-Stmt s)) ∙ para-roll-Stmt (Placed → Inner) Inner stmt_begun placed_begun (out-Stmt s))
+    (ap (para-Stmt (Placed → Inner) Inner stmt_begun placed_begun) (sym (roll-out-Stmt s)) ∙ para-roll-Stmt (Placed → Inner) Inner stmt_begun placed_begun (out-Stmt s))

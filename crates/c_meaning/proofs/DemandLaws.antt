@@ -1,15 +1,10 @@
 -- More inputs behind change no answer that is final.
-use Rattle.std.proofs.Common.{◌≡◌, refl, sym, ap, ◌∙◌, subst, ℕ, ℤ, pos, List, [], ◌∷◌, ◌++◌, map, Option, None, Some, Result, Ok, Err}
-use Rattle.gob_tree.specs.declared.expr.Width.{Width}
-use Rattle.gob_tree.specs.declared.expr.UnOp.{UnOp}
-use Rattle.gob_tree.specs.declared.expr.BinOp.{BinOp}
-use Rattle.gob_tree.specs.declared.expr.Expr.{Expr, Number, Local, Unary, Binary}
-use Rattle.gob_tree.specs.declared.expr.Expr as Expr
-use Rattle.gob_tree.specs.declared.expr.Expr.TheOpen.{Expr-F}
+use Rattle.std.proofs.Common.{◌≡◌, refl, sym, ap, ◌∙◌, subst, ℤ, List, [], ◌∷◌, ◌++◌, map, Option, None, Some, Result, Ok, Err}
+use Rattle.gob_tree.specs.declared.expr.Expr.{Expr}
 use Rattle.gob_tree.specs.declared.unit.Slot.{Slot}
 use Rattle.c_meaning.specs.declared.demand.Demand.{Demand}
 use Rattle.c_meaning.specs.declared.demand.Demand.TheVariants.{Global, Nondet, Call, Fault}
-use Rattle.c_meaning.specs.Demand.{Answer, on_answer, and_then, next_input, decided_or, early_value, unary_value, binary_value, wider, value_at, Meaning, meaning_step, meaning_of, answers_of, demand_of}
+use Rattle.c_meaning.specs.Demand.{Answer, on_answer, and_then, next_input, decided_or, early_value, unary_value, binary_value, wider, Meaning, meaning_step, meaning_of, answers_of}
 use Rattle.c_meaning.specs.Laws.{IsFinal, FinalStays}
 use Rattle.c_meaning.proofs.Folds.{fold-Number, fold-Local, fold-Global, fold-Nondet, fold-Unary, fold-Binary, fold-Call}
 use Rattle.c_meaning.proofs.Induct.{Each, by_forms}
@@ -43,8 +38,8 @@ all_stay : (args : List Expr) → Each ExprStays args → (slots : List Slot) (v
 all_stay [] all slots values = λ ins more f. refl
 all_stay (e ∷ es) all slots values =
     then_stays ((meaning_of e).answer slots values) (λ n rest. and_then (answers_of (map meaning_of es) slots values rest) (λ ns rest'. (Ok (n ∷ ns), rest')))
-        (all.0 slots values)
-        (λ n. then_stays (answers_of (map meaning_of es) slots values) (λ ns rest'. (Ok (n ∷ ns), rest')) (all_stay es all.1 slots values) (λ ns ins more f. refl))
+    (all.0 slots values)
+    (λ n. then_stays (answers_of (map meaning_of es) slots values) (λ ns rest'. (Ok (n ∷ ns), rest')) (all_stay es all.1 slots values) (λ ns ins more f. refl))
 
 expr_stays : (e : Expr) → ExprStays e
 expr_stays = by_forms ExprStays
@@ -53,14 +48,14 @@ expr_stays = by_forms ExprStays
     (λ g w. subst MeaningStays (sym (fold-Global Meaning meaning_step g w)) (λ slots values. next_stays (Global g) (λ e. cc)))
     (λ w. subst MeaningStays (sym (fold-Nondet Meaning meaning_step w)) (λ slots values. next_stays (Nondet w) (λ e. cc)))
     (λ op a sa. subst MeaningStays (sym (fold-Unary Meaning meaning_step op a))
-        (λ slots values. then_stays ((meaning_of a).answer slots values) (λ n rest. (Ok (unary_value op ((meaning_of a).width slots) n), rest)) (sa slots values) (λ n ins more f. refl)))
+    (λ slots values. then_stays ((meaning_of a).answer slots values) (λ n rest. (Ok (unary_value op ((meaning_of a).width slots) n), rest)) (sa slots values) (λ n ins more f. refl)))
     (λ op a b sa sb. subst MeaningStays (sym (fold-Binary Meaning meaning_step op a b))
-        (λ slots values. then_stays ((meaning_of a).answer slots values)
-            (λ n rest. decided_or (early_value op n) rest (and_then ((meaning_of b).answer slots values rest) (λ m rest'. (binary_value op (wider ((meaning_of a).width slots) ((meaning_of b).width slots)) n m, rest'))))
-            (sa slots values)
-            (λ n. decided_stays (early_value op n) _ (then_stays ((meaning_of b).answer slots values) (λ m rest'. (binary_value op (wider ((meaning_of a).width slots) ((meaning_of b).width slots)) n m, rest')) (sb slots values) (λ m ins more f. refl)))))
+    (λ slots values. then_stays ((meaning_of a).answer slots values)
+    (λ n rest. decided_or (early_value op n) rest (and_then ((meaning_of b).answer slots values rest) (λ m rest'. (binary_value op (wider ((meaning_of a).width slots) ((meaning_of b).width slots)) n m, rest'))))
+    (sa slots values)
+    (λ n. decided_stays (early_value op n) _ (then_stays ((meaning_of b).answer slots values) (λ m rest'. (binary_value op (wider ((meaning_of a).width slots) ((meaning_of b).width slots)) n m, rest')) (sb slots values) (λ m ins more f. refl)))))
     (λ g w args all. subst MeaningStays (sym (fold-Call Meaning meaning_step g w args))
-        (λ slots values. then_stays (answers_of (map meaning_of args) slots values) (λ ns rest. next_input (Call g ns) rest) (all_stay args all slots values) (λ ns. next_stays (Call g ns) (λ e. cc))))
+    (λ slots values. then_stays (answers_of (map meaning_of args) slots values) (λ ns rest. next_input (Call g ns) rest) (all_stay args all slots values) (λ ns. next_stays (Call g ns) (λ e. cc))))
 
 pub final_answers_stay : FinalStays
 final_answers_stay e slots values = expr_stays e slots values

@@ -1,5 +1,5 @@
 -- A fold over an expression, one level down.
-use Rattle.std.proofs.Common.{◌≡◌, refl, sym, ap, ◌∙◌, ℕ, ℤ, List, [], ◌∷◌, map}
+use Rattle.std.proofs.Common.{◌≡◌, sym, ap, ◌∙◌, ℕ, ℤ, List, map}
 use Rattle.gob_tree.specs.declared.expr.Width.{Width}
 use Rattle.gob_tree.specs.declared.expr.UnOp.{UnOp}
 use Rattle.gob_tree.specs.declared.expr.BinOp.{BinOp}

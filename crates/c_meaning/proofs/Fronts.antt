@@ -1,14 +1,14 @@
 -- What unrolls in front, form by form.
-use Rattle.std.proofs.Common.{◌≡◌, refl, sym, ap, ◌∙◌, ℕ, List, [], ◌∷◌, ◌++◌, map, Option, None, Some}
+use Rattle.std.proofs.Common.{◌≡◌, refl, sym, ap, ◌∙◌, ℕ, List, [], ◌∷◌, ◌++◌, map, Option}
 use Rattle.gob_tree.specs.declared.place.Place.{Place}
 use Rattle.gob_tree.specs.declared.expr.Expr.{Expr}
 use Rattle.gob_tree.specs.declared.stmt.Target.{Target}
-use Rattle.gob_tree.specs.declared.stmt.Stmt.{Stmt, Declare, DeclareThread, Assign, CallOnly, If, While, DoWhile, For, Block, Break, Continue, Return, Create, Join, Lock, Unlock, Assert, Empty, out-Stmt, roll-Stmt, roll-out-Stmt, map-Stmt, para-Stmt, para-roll-Stmt}
-use Rattle.gob_tree.specs.declared.stmt.Stmt.TheOpen.{Stmt-F, Placed-F}
+use Rattle.gob_tree.specs.declared.stmt.Stmt.{Stmt, Declare, DeclareThread, Assign, CallOnly, If, While, DoWhile, For, Block, Break, Continue, Return, Create, Join, Lock, Unlock, Assert, Empty, out-Stmt, roll-out-Stmt, map-Stmt, para-Stmt, para-roll-Stmt}
+use Rattle.gob_tree.specs.declared.stmt.Stmt.TheOpen.{Stmt-F}
 use Rattle.gob_tree.specs.declared.stmt.Stmt.TheVariants.{outs-Declare, outs-DeclareThread, outs-Assign, outs-CallOnly, outs-If, outs-While, outs-DoWhile, outs-For, outs-Block, outs-Break, outs-Continue, outs-Return, outs-Create, outs-Join, outs-Lock, outs-Unlock, outs-Assert, outs-Empty}
-use Rattle.gob_tree.specs.declared.stmt.Placed.{Placed, para-Placed, para-roll-Placed}
+use Rattle.gob_tree.specs.declared.stmt.Placed.{Placed, para-roll-Placed}
 use Rattle.c_meaning.specs.declared.config.Todo.{Todo}
-use Rattle.c_meaning.specs.declared.config.Todo.TheVariants.{Stmt as Do, Test, Last}
+use Rattle.c_meaning.specs.declared.config.Todo.TheVariants.{Stmt as Do, Test}
 use Rattle.c_meaning.specs.Tree.{statements, unroll_stmt, unroll_placed, with_front}
 
 abbrev Unrolls : Type 0

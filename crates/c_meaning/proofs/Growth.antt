@@ -1,13 +1,10 @@
 -- How a draft grows: which silent edges are added, and that the nodes keep a rank that rises along
 -- each of them.
-use Rattle.std.proofs.Common.{◌≡◌, ◌≢◌, refl, sym, ap, ◌∙◌, subst, ℕ, zero, suc, ◌+◌, ◌<◌, ◌≤◌, max, ◌⊎◌, inl, inr, ⊎_elim, Bool, true, false, List, [], ◌∷◌, ◌++◌, length, arith, append_assoc, length-append}
+use Rattle.std.proofs.Common.{◌≡◌, ◌≢◌, refl, sym, ap, ◌∙◌, subst, ℕ, zero, suc, ◌+◌, ◌<◌, ◌≤◌, max, ◌⊎◌, inl, inr, ⊎_elim, true, false, List, [], ◌∷◌, ◌++◌, length, arith, append_assoc, length-append}
 use Rattle.std.specs.Prelude.{if◌then◌else◌, nat_eq, slice_index_or}
-use Rattle.std.specs.List.{Contains}
 use Rattle.gob_tree.specs.declared.place.Place.{Place}
-use Rattle.gob_tree.specs.declared.expr.Expr.{Expr}
 use Rattle.gob_tree.specs.declared.graph.Action.{Action}
-use Rattle.gob_tree.specs.declared.graph.Edge.{Edge}
-use Rattle.c_meaning.specs.Graph.{Drawn, Draft, next_node, with_node, with_drawn, with_edge, with_silent}
+use Rattle.c_meaning.specs.Graph.{Drawn, Draft, next_node, with_node, with_edge, with_silent}
 use Rattle.c_meaning.proofs.Induct.{Each}
 
 -- ---- lists
@@ -158,9 +155,9 @@ pub record Grown (n at : ℕ) (d d' : Draft) : Type 0 where
 pub adds_below : (n at : ℕ) (d d' : Draft) → Adds n at d d' → Below d → Below d'
 adds_below n at d d' g b =
     subst (Ends (λ from to. (from < next_node d') × (to < next_node d'))) (sym g.drawn)
-        (ends_append (λ from to. (from < next_node d') × (to < next_node d')) d.drawn g.added
-            (ends_map (λ from to. (from < next_node d) × (to < next_node d)) (λ from to. (from < next_node d') × (to < next_node d')) (λ from to e. let k = g.nodes in (omega (arith, e.0, k), omega (arith, e.1, k))) d.drawn b)
-            (ends_map (IsNew n at (next_node d')) (λ from to. (from < next_node d') × (to < next_node d')) (λ from to e. (e.2, e.3)) g.added g.ends))
+    (ends_append (λ from to. (from < next_node d') × (to < next_node d')) d.drawn g.added
+    (ends_map (λ from to. (from < next_node d) × (to < next_node d)) (λ from to. (from < next_node d') × (to < next_node d')) (λ from to e. let k = g.nodes in (omega (arith, e.0, k), omega (arith, e.1, k))) d.drawn b)
+    (ends_map (IsNew n at (next_node d')) (λ from to. (from < next_node d') × (to < next_node d')) (λ from to e. (e.2, e.3)) g.added g.ends))
 
 pub append_nil : (xs : List Drawn) → xs ≡ xs ++ []
 append_nil [] = refl

@@ -1,5 +1,5 @@
 -- Induction over an expression, by the parts of each form.
-use Rattle.std.proofs.Common.{◌≡◌, refl, sym, ap, ◌∙◌, subst, ℕ, ℤ, List, [], ◌∷◌, map}
+use Rattle.std.proofs.Common.{sym, subst, ℕ, ℤ, List, [], ◌∷◌, map}
 use Rattle.gob_tree.specs.declared.expr.Width.{Width}
 use Rattle.gob_tree.specs.declared.expr.UnOp.{UnOp}
 use Rattle.gob_tree.specs.declared.expr.BinOp.{BinOp}

@@ -1,11 +1,11 @@
 -- How each form of statement is lowered.
-use Rattle.std.proofs.Common.{◌≡◌, refl, sym, ap, ◌∙◌, ℕ, List, [], ◌∷◌, map, Option, None, Some}
+use Rattle.std.proofs.Common.{◌≡◌, ◌∙◌, ℕ, List, map, Option}
 use Rattle.std.specs.Option.{option_map}
 use Rattle.gob_tree.specs.declared.place.Place.{Place}
 use Rattle.gob_tree.specs.declared.expr.Expr.{Expr}
 use Rattle.gob_tree.specs.declared.stmt.Target.{Target}
-use Rattle.gob_tree.specs.declared.stmt.Stmt.{Stmt, Declare, DeclareThread, Assign, CallOnly, If, While, DoWhile, For, Block, Break, Continue, Return, Create, Join, Lock, Unlock, Assert, Empty}
-use Rattle.gob_tree.specs.declared.stmt.Stmt.TheOpen.{Stmt-F, Placed-F}
+use Rattle.gob_tree.specs.declared.stmt.Stmt.{Declare, DeclareThread, Assign, CallOnly, If, While, DoWhile, For, Block, Break, Continue, Return, Create, Join, Lock, Unlock, Assert, Empty}
+use Rattle.gob_tree.specs.declared.stmt.Stmt.TheOpen.{Stmt-F}
 use Rattle.gob_tree.specs.declared.stmt.Placed.{Placed}
 use Rattle.c_meaning.specs.Graph.{Lowering, lowering_step, placed_step, lowering_of}
 use Rattle.c_meaning.proofs.StmtFolds.{fold-struct, fold-Declare, fold-DeclareThread, fold-Assign, fold-CallOnly, fold-If, fold-While, fold-DoWhile, fold-For, fold-Block, fold-Break, fold-Continue, fold-Return, fold-Create, fold-Join, fold-Lock, fold-Unlock, fold-Assert, fold-Empty}

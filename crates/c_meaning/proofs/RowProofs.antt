@@ -1,8 +1,6 @@
 -- The rows hold of the folds.
-use Rattle.std.proofs.Common.{◌≡◌, ap, ℕ, ℤ, List, Option, None, Some}
-use Rattle.gob_tree.specs.declared.expr.Expr.{Expr}
+use Rattle.std.proofs.Common.{◌≡◌, ap, None, Some}
 use Rattle.gob_tree.specs.declared.stmt.Target.{Target}
-use Rattle.gob_tree.specs.declared.unit.Slot.{Slot}
 use Rattle.c_meaning.specs.Demand.{Meaning, meaning_step}
 use Rattle.c_meaning.specs.Graph.{Draft, Route, Lowering, Hoisting, hoisting_step}
 use Rattle.c_meaning.specs.Rows.{WidthRows, DemandRows, UnrollRows, HoistRows, LowerRows}

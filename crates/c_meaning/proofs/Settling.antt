@@ -1,14 +1,13 @@
 -- A thread that does silent edges while it can comes to a node where none is left.
-use Rattle.std.proofs.Common.{◌≡◌, refl, sym, ap, ◌∙◌, subst, ℕ, zero, suc, ◌+◌, ◌<◌, ◌≤◌, Bool, true, false, List, [], ◌∷◌, length, Option, None, Some, arith}
+use Rattle.std.proofs.Common.{◌≡◌, refl, ap, ℕ, zero, suc, ◌+◌, ◌<◌, ◌≤◌, Bool, true, false, List, [], ◌∷◌, length, Option, None, Some, arith}
 use Rattle.std.specs.Prelude.{if◌then◌else◌, nat_eq, nat_le, ◌&&◌, ℤ}
 use Rattle.std.specs.Option.{option_map_or}
 use Rattle.gob_tree.specs.declared.unit.Slot.{Slot}
-use Rattle.gob_tree.specs.declared.unit.Function.{Function}
 use Rattle.c_meaning.specs.Graph.{Drawn, draft_of, graph_slots}
 use Rattle.c_meaning.specs.GraphStep.{local_slots}
-use Rattle.c_meaning.specs.Walk.{Moment, moment_after, silent_slots, silent_from, first_or, settled_or, settled_within, settled_from}
+use Rattle.c_meaning.specs.Walk.{Moment, moment_after, silent_slots, silent_from, first_or, settled_or, settled_within}
 use Rattle.c_meaning.specs.Laws.{SilentEdgesRunOut}
-use Rattle.c_meaning.proofs.Growth.{Rises, Ranked}
+use Rattle.c_meaning.proofs.Growth.{Rises}
 use Rattle.c_meaning.proofs.SilentStmts.{function_ranked}
 
 -- how many edges leave a node of this rank or a higher one

@@ -1,17 +1,16 @@
 -- What hoisting adds to a draft.
-use Rattle.std.proofs.Common.{◌≡◌, ◌≢◌, refl, sym, ap, ◌∙◌, subst, ℕ, ℤ, pos, ◌+◌, ◌<◌, ◌≤◌, ◌⊎◌, inl, inr, ⊎_elim, Bool, true, false, List, [], ◌∷◌, ◌++◌, length, map, Option, None, Some, arith}
+use Rattle.std.proofs.Common.{◌≡◌, ◌≢◌, refl, sym, ◌∙◌, subst, ℕ, pos, ◌+◌, ◌<◌, ◌≤◌, ◌⊎◌, inl, inr, ⊎_elim, Bool, true, false, List, [], ◌∷◌, map, Option, None, Some, arith}
 use Rattle.std.specs.Prelude.{if◌then◌else◌}
 use Rattle.gob_tree.specs.declared.place.Place.{Place}
 use Rattle.gob_tree.specs.declared.expr.Width.{Width}
 use Rattle.gob_tree.specs.declared.expr.Width.TheVariants.{W32}
-use Rattle.gob_tree.specs.declared.expr.UnOp.{UnOp}
 use Rattle.gob_tree.specs.declared.expr.BinOp.{BinOp}
 use Rattle.gob_tree.specs.declared.expr.BinOp.TheVariants.{Ne}
-use Rattle.gob_tree.specs.declared.expr.Expr.{Expr, Number, Local, Unary, Binary}
+use Rattle.gob_tree.specs.declared.expr.Expr.{Expr, Number, Binary}
 use Rattle.gob_tree.specs.declared.graph.Action.{Action}
 use Rattle.gob_tree.specs.declared.graph.Action.TheVariants.{Assign, Guard, Read, Nondet, Call}
 use Rattle.c_meaning.specs.Demand.{truth}
-use Rattle.c_meaning.specs.Graph.{Drawn, Draft, Spot, Hoisted, Hoisting, next_node, with_node, with_edge, with_silent, taking, free_temp, number_or_next, temp_slot, with_temp, fetch_into, fetch, stop_of, node_of, right_join, logic_at, logic_join, strict_right, strict_join, binary_join, before, hoist_all, unary_hoist, call_fetch, hoisting_step, hoisting_of, begun_at, hoisted_expr, hoisted_exprs}
+use Rattle.c_meaning.specs.Graph.{Draft, Spot, Hoisted, Hoisting, next_node, with_node, with_edge, with_silent, taking, free_temp, temp_slot, with_temp, fetch_into, fetch, stop_of, node_of, logic_at, logic_join, strict_join, binary_join, hoist_all, hoisting_step, hoisting_of, begun_at, hoisted_expr, hoisted_exprs}
 use Rattle.c_meaning.proofs.Folds.{fold-Number, fold-Local, fold-Global, fold-Nondet, fold-Unary, fold-Binary, fold-Call}
 use Rattle.c_meaning.proofs.Induct.{Each, by_forms}
 use Rattle.c_meaning.proofs.Growth.{Ends, ends_append, ends_map, Ranked, ranked_into, Below, Grown, IsNew, Adds, adds_below, adds_then, adds_from, adds_node, adds_silent, append_nil, grown_none, grown_then, grown_from, grown_node, node_more, grown_edge}
@@ -94,9 +93,9 @@ module _ (stop : Bool) (place : Place) (t : ℕ) (l : Expr) (s : Spot) (h : s.at
   unfolding p nodes
   nodes_added =
       adds_then p s.at s.draft (with_node place s.draft) nodes (adds_node p s.at s.draft place)
-          (adds_then p s.at (with_node place s.draft) (with_node place (with_node place s.draft)) nodes
-              (adds_node p s.at (with_node place s.draft) place)
-              (adds_node p s.at (with_node place (with_node place s.draft)) place))
+      (adds_then p s.at (with_node place s.draft) (with_node place (with_node place s.draft)) nodes
+      (adds_node p s.at (with_node place s.draft) place)
+      (adds_node p s.at (with_node place (with_node place s.draft)) place))
 
   decides : ℕ
   decides = node_of stop p (p + 1)
@@ -117,9 +116,9 @@ module _ (stop : Bool) (place : Place) (t : ℕ) (l : Expr) (s : Spot) (h : s.at
       let b = before_p in
       let m = decides_new in
       adds_then p s.at s.draft nodes decided nodes_added
-          (adds_then p s.at nodes yes decided (adds_silent p s.at nodes s.at (Guard l true) p (omega arith, inl refl, omega (arith, k, b), omega (arith, k)))
-              (adds_then p s.at yes guards decided (adds_silent p s.at yes s.at (Guard l false) (p + 1) (omega arith, inl refl, omega (arith, k, b), omega (arith, k)))
-                  (adds_silent p s.at guards decides (Assign t (Number (truth stop) W32)) (p + 2) (omega arith, inr (omega (arith, m.0)), omega (arith, k, m.1), omega (arith, k)))))
+      (adds_then p s.at nodes yes decided (adds_silent p s.at nodes s.at (Guard l true) p (omega arith, inl refl, omega (arith, k, b), omega (arith, k)))
+      (adds_then p s.at yes guards decided (adds_silent p s.at yes s.at (Guard l false) (p + 1) (omega arith, inl refl, omega (arith, k, b), omega (arith, k)))
+      (adds_silent p s.at guards decides (Assign t (Number (truth stop) W32)) (p + 2) (omega arith, inr (omega (arith, m.0)), omega (arith, k, m.1), omega (arith, k)))))
 
   -- no silent edge of the draft before leaves a new node
   old_apart : (to : ℕ) → p ≤ to → Below s.draft → Ends (λ from end. from ≢ to) s.draft.drawn
@@ -132,8 +131,8 @@ module _ (stop : Bool) (place : Place) (t : ℕ) (l : Expr) (s : Spot) (h : s.at
   guards_apart to new b =
       let k = before_p in
       ends_append (λ from end. from ≢ to) yes.drawn _
-          (ends_append (λ from end. from ≢ to) s.draft.drawn _ (old_apart to new b) ((λ e q. absurd (omega (arith, q, new, k))), tt))
-          ((λ e q. absurd (omega (arith, q, new, k))), tt)
+      (ends_append (λ from end. from ≢ to) s.draft.drawn _ (old_apart to new b) ((λ e q. absurd (omega (arith, q, new, k))), tt))
+      ((λ e q. absurd (omega (arith, q, new, k))), tt)
 
   decided_apart : Below s.draft → Ends (λ from end. from ≢ p + 2) decided.drawn
   unfolding decided decides
@@ -198,10 +197,10 @@ module _ (stop : Bool) (place : Place) (t : ℕ) (l : Expr) (s : Spot) (h : s.at
         let m = goes_new in
         let g = hops_right.grown.adds in
         subst (Ends (λ from end. from ≢ p + 2)) (sym g.drawn)
-            (ends_append (λ from end. from ≢ p + 2) decided.drawn g.added (decided_apart b)
-                (ends_map (IsNew (next_node decided) goes_on (next_node r.1.draft)) (λ from end. from ≢ p + 2)
-                    (λ from end e q. ⊎_elim (λ z. absurd (omega (arith, z, q, m.1))) (λ z. absurd (omega (arith, z, q, k))) e.1)
-                    g.added g.ends))
+        (ends_append (λ from end. from ≢ p + 2) decided.drawn g.added (decided_apart b)
+        (ends_map (IsNew (next_node decided) goes_on (next_node r.1.draft)) (λ from end. from ≢ p + 2)
+        (λ from end e q. ⊎_elim (λ z. absurd (omega (arith, z, q, m.1))) (λ z. absurd (omega (arith, z, q, k))) e.1)
+        g.added g.ends))
 
     right_adds : Adds p s.at s.draft r.1.draft
     unfolding right_from
@@ -209,7 +208,7 @@ module _ (stop : Bool) (place : Place) (t : ℕ) (l : Expr) (s : Spot) (h : s.at
         let k = decided_nodes in
         let m = goes_new in
         adds_then p s.at s.draft decided r.1.draft decided_added
-            (adds_from p (next_node decided) s.at goes_on decided r.1.draft (omega (arith, k)) (inr m.0) hops_right.grown.adds)
+        (adds_from p (next_node decided) s.at goes_on decided r.1.draft (omega (arith, k)) (inr m.0) hops_right.grown.adds)
 
     all_adds : Adds p s.at s.draft last
     unfolding last right_from
@@ -217,7 +216,7 @@ module _ (stop : Bool) (place : Place) (t : ℕ) (l : Expr) (s : Spot) (h : s.at
         let k = decided_nodes in
         let g = hops_right.grown.adds.nodes in
         adds_then p s.at s.draft r.1.draft last right_adds
-            (adds_silent p s.at r.1.draft r.1.at (Assign t (Binary Ne r.0 (Number (pos 0) W32))) (p + 2) (omega arith, inr end_new, hops_right.there, omega (arith, k, g)))
+        (adds_silent p s.at r.1.draft r.1.at (Assign t (Binary Ne r.0 (Number (pos 0) W32))) (p + 2) (omega arith, inr end_new, hops_right.there, omega (arith, k, g)))
 
     all_ranked : Below s.draft → Ranked s.draft.drawn → Ranked last.drawn
     unfolding last right_from
@@ -261,14 +260,14 @@ hoists_hop = by_forms (λ e. HoistHops (hoisting_of e))
     (λ w. subst HoistHops (sym (fold-Nondet Hoisting hoisting_step w)) (λ place s h. hops_fetch place w (λ t. Nondet t) s h))
     (λ op a ha. subst HoistHops (sym (fold-Unary Hoisting hoisting_step op a)) ha)
     (λ op a b ha hb. subst HoistHops (sym (fold-Binary Hoisting hoisting_step op a b))
-        (λ place s h.
-            let first = ha place s h in
-            hops_then s ((hoisting_of a).hoist place s).1 _ first (hops_binary (stop_of op) op (hoisting_of b) place ((hoisting_of a).hoist place s) hb first.there)))
+    (λ place s h.
+    let first = ha place s h in
+    hops_then s ((hoisting_of a).hoist place s).1 _ first (hops_binary (stop_of op) op (hoisting_of b) place ((hoisting_of a).hoist place s) hb first.there)))
     (λ f w args all. subst HoistHops (sym (fold-Call Hoisting hoisting_step f w args))
-        (λ place s h.
-            let first = hops_all (map hoisting_of args) (all_hop args all) place s h in
-            let es = hoist_all (map hoisting_of args) place s in
-            hops_then s es.1 _ first (hops_fetch place w (λ t. Call (Some t) f es.0) es.1 first.there)))
+    (λ place s h.
+    let first = hops_all (map hoisting_of args) (all_hop args all) place s h in
+    let es = hoist_all (map hoisting_of args) place s in
+    hops_then s es.1 _ first (hops_fetch place w (λ t. Call (Some t) f es.0) es.1 first.there)))
 
 -- a statement's expressions, from a node that is there
 pub record Hoists (node : ℕ) (d : Draft) (s : Spot) : Type 0 where

@@ -1,20 +1,19 @@
 -- What lowering adds to a draft, and that the silent edges of a function form no circle.
-use Rattle.std.proofs.Common.{◌≡◌, ◌≢◌, refl, sym, ap, ◌∙◌, subst, ℕ, ◌+◌, ◌<◌, ◌≤◌, ◌⊎◌, inl, inr, ⊎_elim, true, List, [], ◌∷◌, ◌++◌, length, map, Option, None, Some, arith}
-use Rattle.std.specs.Option.{option_map_or}
+use Rattle.std.proofs.Common.{◌≡◌, ◌≢◌, refl, sym, ap, subst, ℕ, ◌+◌, ◌<◌, ◌≤◌, inl, inr, true, List, [], ◌∷◌, map, Option, None, Some, arith}
 use Rattle.std.specs.List.{Contains}
 use Rattle.gob_tree.specs.declared.place.Place.{Place}
 use Rattle.gob_tree.specs.declared.expr.Expr.{Expr}
 use Rattle.gob_tree.specs.declared.stmt.Target.{Target}
 use Rattle.gob_tree.specs.declared.stmt.Stmt.{Stmt, fold-Stmt, fold-roll-Stmt, map-Stmt, roll-Stmt}
 use Rattle.gob_tree.specs.declared.stmt.Stmt.TheOpen.{Stmt-F, Placed-F}
-use Rattle.gob_tree.specs.declared.stmt.Placed.{Placed, fold-Placed, fold-roll-Placed, ind-Placed, map-Placed, roll-Placed}
+use Rattle.gob_tree.specs.declared.stmt.Placed.{Placed, fold-roll-Placed, ind-Placed, map-Placed, roll-Placed}
 use Rattle.gob_tree.specs.declared.unit.Function.{Function}
 use Rattle.gob_tree.specs.declared.graph.Action.{Action}
-use Rattle.gob_tree.specs.declared.graph.Action.TheVariants.{Assign, Write, Assert, Guard, Call, Skip}
-use Rattle.c_meaning.specs.Graph.{Drawn, Draft, Route, Spot, Hoisted, Lowering, next_node, with_node, with_edge, with_silent, with_guards, hoisted_expr, hoisted_exprs, last_edge, call_edge, sequence, sequence_or_silent, part_or_silent, if_head, if_draft, while_head, while_draft, body_route, do_draft, for_first, for_head, for_draft, condition, lowering_step, placed_step, lowering_of, first_draft, first_route, draft_of}
+use Rattle.gob_tree.specs.declared.graph.Action.TheVariants.{Guard, Skip}
+use Rattle.c_meaning.specs.Graph.{Drawn, Draft, Route, Spot, Hoisted, Lowering, next_node, with_node, with_edge, with_silent, with_guards, hoisted_expr, hoisted_exprs, sequence, if_head, if_draft, while_head, while_draft, body_route, do_draft, for_first, for_head, for_draft, condition, lowering_step, placed_step, lowering_of, first_draft, first_route, draft_of}
 use Rattle.c_meaning.specs.Laws.{SilentPath, last_edge as path_end, first_edge, SilentEdgesEnd}
 use Rattle.c_meaning.proofs.Induct.{Each}
-use Rattle.c_meaning.proofs.Growth.{Ends, ends_append, ends_map, Ranked, ranked_into, ranked_out_of, Below, IsNew, Adds, adds_below, adds_then, adds_from, adds_node, adds_silent, Grown, grown_none, grown_then, grown_from, grown_node, node_more, grown_edge, each_at}
+use Rattle.c_meaning.proofs.Growth.{Ends, ends_append, ends_map, Ranked, ranked_into, ranked_out_of, Below, IsNew, adds_below, adds_then, adds_node, adds_silent, Grown, grown_then, grown_from, grown_node, node_more, grown_edge, each_at}
 use Rattle.c_meaning.proofs.SilentHoists.{Hoists, hoists_expr, hoists_exprs}
 
 -- a lowering that adds so from each node that is there
@@ -42,9 +41,9 @@ sequence_grows (s ∷ s' ∷ ss) all r d h =
     let k = g1.adds.nodes in
     let g2 : Grown (next_node d2) node d2 (sequence (s' ∷ ss) (record r { from = node }) d2) = sequence_grows (s' ∷ ss) all.1 (record r { from = node }) d2 (omega (arith, m, k)) in
     grown_then node r.from d d1 _ (grown_node node r.from d s'.start)
-        (grown_then node r.from d1 d2 _
-            (grown_from node (next_node d1) r.from r.from d1 d2 (omega (arith, m)) (inl refl) g1)
-            (grown_from node (next_node d2) r.from node d2 _ (omega (arith, m, k)) (inr (omega arith)) g2))
+    (grown_then node r.from d1 d2 _
+    (grown_from node (next_node d1) r.from r.from d1 d2 (omega (arith, m)) (inl refl) g1)
+    (grown_from node (next_node d2) r.from node d2 _ (omega (arith, m, k)) (inr (omega arith)) g2))
 
 -- ---- `if`, `while`, `do`
 
@@ -58,9 +57,9 @@ if_one_grows a ga r d e h k =
     let head = if_head a.start None r.to e in
     let ga1 : Grown (next_node head) node head (if_draft a None r e) = ga (record r { from = node }) head (omega (arith, m)) in
     grown_then n r.from d e.1.draft _ k.grown
-        (grown_then n r.from e.1.draft d1 _ (grown_node n r.from e.1.draft a.start)
-            (grown_then n r.from d1 head _ (guards_grow n r.from d1 e.1.at e.0 node r.to)
-                (grown_from n (next_node head) r.from node head _ (omega (arith, m, q)) (inr q) ga1)))
+    (grown_then n r.from e.1.draft d1 _ (grown_node n r.from e.1.draft a.start)
+    (grown_then n r.from d1 head _ (guards_grow n r.from d1 e.1.at e.0 node r.to)
+    (grown_from n (next_node head) r.from node head _ (omega (arith, m, q)) (inr q) ga1)))
 
 if_two_grows : (a b : Lowering) → LowerGrows a → LowerGrows b → (r : Route) (d : Draft) (e : Hoisted Expr) → r.from < next_node d → Hoists r.from d e.1 → Grown (next_node d) r.from d (if_draft a (Some b) r e)
 if_two_grows a b ga gb r d e h k =
@@ -77,12 +76,12 @@ if_two_grows a b ga gb r d e h k =
     let q3 = g1.adds.nodes in
     let g2 : Grown (next_node d3) (node + 1) d3 (if_draft a (Some b) r e) = gb (record r { from = node + 1 }) d3 (omega (arith, m1, m2, q3)) in
     grown_then n r.from d e.1.draft _ k.grown
-        (grown_then n r.from e.1.draft d1 _ (grown_node n r.from e.1.draft a.start)
-            (grown_then n r.from d1 d2 _ (grown_node n r.from d1 b.start)
-                (grown_then n r.from d2 head _ (guards_grow n r.from d2 e.1.at e.0 node (node + 1))
-                    (grown_then n r.from head d3 _
-                        (grown_from n (next_node head) r.from node head d3 (omega (arith, m1, m2, q)) (inr q) g1)
-                        (grown_from n (next_node d3) r.from (node + 1) d3 _ (omega (arith, m1, m2, q, q3)) (inr (omega (arith, q))) g2)))))
+    (grown_then n r.from e.1.draft d1 _ (grown_node n r.from e.1.draft a.start)
+    (grown_then n r.from d1 d2 _ (grown_node n r.from d1 b.start)
+    (grown_then n r.from d2 head _ (guards_grow n r.from d2 e.1.at e.0 node (node + 1))
+    (grown_then n r.from head d3 _
+    (grown_from n (next_node head) r.from node head d3 (omega (arith, m1, m2, q)) (inr q) g1)
+    (grown_from n (next_node d3) r.from (node + 1) d3 _ (omega (arith, m1, m2, q, q3)) (inr (omega (arith, q))) g2)))))
 
 while_grows : (body : Lowering) → LowerGrows body → (r : Route) (d : Draft) (e : Hoisted Expr) → r.from < next_node d → Hoists r.from d e.1 → Grown (next_node d) r.from d (while_draft body r e)
 while_grows body gb r d e h k =
@@ -94,9 +93,9 @@ while_grows body gb r d e h k =
     let head = while_head body.start r.to e in
     let g : Grown (next_node head) node head (while_draft body r e) = gb (body_route node r.from r.to) head (omega (arith, m)) in
     grown_then n r.from d e.1.draft _ k.grown
-        (grown_then n r.from e.1.draft d1 _ (grown_node n r.from e.1.draft body.start)
-            (grown_then n r.from d1 head _ (guards_grow n r.from d1 e.1.at e.0 node r.to)
-                (grown_from n (next_node head) r.from node head _ (omega (arith, m, q)) (inr q) g)))
+    (grown_then n r.from e.1.draft d1 _ (grown_node n r.from e.1.draft body.start)
+    (grown_then n r.from d1 head _ (guards_grow n r.from d1 e.1.at e.0 node r.to)
+    (grown_from n (next_node head) r.from node head _ (omega (arith, m, q)) (inr q) g)))
 
 do_grows : (body : Lowering) (e : Expr) (place : Place) → LowerGrows body → (r : Route) (d : Draft) → r.from < next_node d → Grown (next_node d) r.from d (do_draft body e place r d)
 do_grows body e place gb r d h =
@@ -109,9 +108,9 @@ do_grows body e place gb r d h =
     let t = hoisted_expr e place n d2 in
     let k : Hoists n d2 t.1 = hoists_expr e place n d2 (omega (arith, m, q)) in
     grown_then n r.from d d1 _ (grown_node n r.from d place)
-        (grown_then n r.from d1 d2 _ (grown_from n (next_node d1) r.from r.from d1 d2 (omega (arith, m)) (inl refl) g)
-            (grown_then n r.from d2 t.1.draft _ (grown_from n (next_node d2) r.from n d2 t.1.draft (omega (arith, m, q)) (inr (omega arith)) k.grown)
-                (guards_grow n r.from t.1.draft t.1.at t.0 r.from r.to)))
+    (grown_then n r.from d1 d2 _ (grown_from n (next_node d1) r.from r.from d1 d2 (omega (arith, m)) (inl refl) g)
+    (grown_then n r.from d2 t.1.draft _ (grown_from n (next_node d2) r.from n d2 t.1.draft (omega (arith, m, q)) (inr (omega arith)) k.grown)
+    (guards_grow n r.from t.1.draft t.1.at t.0 r.from r.to)))
 
 -- ---- `for`
 
@@ -161,7 +160,7 @@ module _ (body : Lowering) (gb : LowerGrows body) (last_start : Place) (to : ℕ
       let d1 = with_node body.start e.1.draft in
       let d2 = with_node last_start d1 in
       grown_then n at e.1.draft d1 head (grown_node n at e.1.draft body.start)
-          (grown_then n at d1 d2 head (grown_node n at d1 last_start) (guards_grow n at d2 e.1.at e.0 node to))
+      (grown_then n at d1 d2 head (grown_node n at d1 last_start) (guards_grow n at d2 e.1.at e.0 node to))
 
   body_grows : Grown (next_node head) node head done
   unfolding done
@@ -174,13 +173,13 @@ module _ (body : Lowering) (gb : LowerGrows body) (last_start : Place) (to : ℕ
       let k = head_nodes in
       let g = body_grows.adds in
       subst (Ends (λ from end. end ≢ node + 1)) (sym g.drawn)
-          (ends_append (λ from end. end ≢ node + 1) head.drawn g.added
-              (ends_append (λ from end. end ≢ node + 1) _ _
-                  (ends_append (λ from end. end ≢ node + 1) e.1.draft.drawn _
-                      (ends_map (λ from end. (from < node) × (end < node)) (λ from end. end ≢ node + 1) (λ from end x q. absurd (omega (arith, x.1, q))) e.1.draft.drawn b)
-                      ((λ s. cc), tt))
-                  ((λ s. cc), tt))
-              (ends_map (IsNew (next_node head) node (next_node done)) (λ from end. end ≢ node + 1) (λ from end x q. absurd (omega (arith, x.0, q, k))) g.added g.ends))
+      (ends_append (λ from end. end ≢ node + 1) head.drawn g.added
+      (ends_append (λ from end. end ≢ node + 1) _ _
+      (ends_append (λ from end. end ≢ node + 1) e.1.draft.drawn _
+      (ends_map (λ from end. (from < node) × (end < node)) (λ from end. end ≢ node + 1) (λ from end x q. absurd (omega (arith, x.1, q))) e.1.draft.drawn b)
+      ((λ s. cc), tt))
+      ((λ s. cc), tt))
+      (ends_map (IsNew (next_node head) node (next_node done)) (λ from end. end ≢ node + 1) (λ from end x q. absurd (omega (arith, x.0, q, k))) g.added g.ends))
 
 -- a missing last part: a silent edge from its node, to which no silent edge leads, to the test's
 module _ (body : Lowering) (gb : LowerGrows body) (place : Place) (test : ℕ) (r : Route) (d : Draft) (e : Hoisted Expr) (h : test < next_node d) (k : Hoists test d e.1) (n : ℕ) (le : n ≤ test) where
@@ -194,8 +193,8 @@ module _ (body : Lowering) (gb : LowerGrows body) (place : Place) (test : ℕ) (
       let q = k.grown.adds.nodes in
       let opened = head body gb place r.to e in
       grown_then n test d e.1.draft lowered (grown_from n (next_node d) test test d e.1.draft (omega (arith, h, le)) (inl refl) k.grown)
-          (grown_then n test e.1.draft opened lowered (head_grows body gb place r.to e n test)
-              (grown_from n (next_node opened) test (next_node e.1.draft) opened lowered (omega (arith, m, q, h, le)) (inr (omega (arith, q, h, le))) (body_grows body gb place r.to e)))
+      (grown_then n test e.1.draft opened lowered (head_grows body gb place r.to e n test)
+      (grown_from n (next_node opened) test (next_node e.1.draft) opened lowered (omega (arith, m, q, h, le)) (inr (omega (arith, q, h, le))) (body_grows body gb place r.to e)))
 
   there : (test < next_node lowered) × (next_node e.1.draft + 1 < next_node lowered) × (test < next_node e.1.draft + 1)
   unfolding lowered head node done
@@ -229,10 +228,10 @@ for_some_grows last body gl gb place test r d e h k n le =
     let p = next_node e.1.draft + 1 in
     let gp : Grown (next_node lowered) p lowered (for_draft (Some last) body place test r e) = gl (record r { from = p; to = test }) lowered (omega (arith, m, gn)) in
     grown_then n test d e.1.draft _ (grown_from n (next_node d) test test d e.1.draft (omega (arith, h, le)) (inl refl) k.grown)
-        (grown_then n test e.1.draft opened _ (head_grows body gb last.start r.to e n test)
-            (grown_then n test opened lowered _
-                (grown_from n (next_node opened) test (next_node e.1.draft) opened lowered (omega (arith, m, q, h, le)) (inr (omega (arith, q, h, le))) g)
-                (grown_from n (next_node lowered) test p lowered _ (omega (arith, m, gn, q, h, le)) (inr (omega (arith, q, h, le))) gp)))
+    (grown_then n test e.1.draft opened _ (head_grows body gb last.start r.to e n test)
+    (grown_then n test opened lowered _
+    (grown_from n (next_node opened) test (next_node e.1.draft) opened lowered (omega (arith, m, q, h, le)) (inr (omega (arith, q, h, le))) g)
+    (grown_from n (next_node lowered) test p lowered _ (omega (arith, m, gn, q, h, le)) (inr (omega (arith, q, h, le))) gp)))
 
 -- a last part that adds so, where there is one
 abbrev PartGrows : Option Lowering → Type 0
@@ -253,7 +252,7 @@ for_grows first test last body place all gl gb r d h =
     let e = hoisted_expr (condition test) place n d1 in
     let k : Hoists n d1 e.1 = hoists_expr (condition test) place n d1 there in
     grown_then n r.from d d1 _ g1
-        (grown_from n n r.from n d1 _ (omega arith) (inr (omega arith)) (for_part_grows last body gl gb place n r d1 e there k n (omega arith)))
+    (grown_from n n r.from n d1 _ (omega arith) (inr (omega arith)) (for_part_grows last body gl gb place n r d1 e there k n (omega arith)))
   where
     first_there : (first : List Lowering) (place : Place) → Each LowerGrows first → (r : Route) (d : Draft) → r.from < next_node d → next_node d < next_node (for_first first place r d)
     first_there [] place all r d h = let m = node_more d place in omega (arith, m)
@@ -319,12 +318,12 @@ stmt_rolled : (x : Stmt-F Stmt Placed) (y : Stmt-F GrownStmt GrownPlaced) → st
 stmt_rolled x y e place =
     let same = fold-roll-Stmt (Place → Lowering) Lowering lowering_step placed_step x in
     subst LowerGrows (sym (ap (λ (f : Place → Lowering). f place) same))
-        (subst (λ (z : Stmt-F Stmt Placed). LowerGrows (lowering_step (lowerings_of z) place)) e (layer_grows y place))
+    (subst (λ (z : Stmt-F Stmt Placed). LowerGrows (lowering_step (lowerings_of z) place)) e (layer_grows y place))
 
 placed_rolled : (x : Placed-F Stmt Placed) (y : Placed-F GrownStmt GrownPlaced) → map-Placed GrownStmt GrownPlaced Stmt Placed (λ s. s.0) (λ p. p.0) y ≡ x → PlacedGrows (roll-Placed x)
 placed_rolled x y e =
     subst (λ (z : Placed-F Stmt Placed). PlacedGrows (roll-Placed z)) e
-        (subst LowerGrows (sym (fold-roll-Placed (Place → Lowering) Lowering lowering_step placed_step (record { place = y.place; stmt = y.stmt.0 }))) (y.stmt.1 y.place))
+    (subst LowerGrows (sym (fold-roll-Placed (Place → Lowering) Lowering lowering_step placed_step (record { place = y.place; stmt = y.stmt.0 }))) (y.stmt.1 y.place))
 
 lowerings_grow : (p : Placed) → PlacedGrows p
 lowerings_grow = ind-Placed StmtGrows PlacedGrows stmt_rolled placed_rolled

@@ -69,7 +69,6 @@ pub two_reads_kept : slots_of (left racing racing_choices) ≡ racing_slots
 unfolding int_wrap
 two_reads_kept = simp steps
 
-
 pub inside_call : slots_of (left calling first_choice) ≡ inside_slots
 unfolding int_wrap
 inside_call = simp steps

@@ -1,12 +1,12 @@
 -- What a step changes, and what a run begins with.
-use Rattle.std.proofs.Common.{◌≡◌, ◌≢◌, refl, sym, ap, ◌∙◌, subst, ℕ, ℤ, Bool, true, false, List, [], ◌∷◌, ◌++◌, Option, None, Some}
+use Rattle.std.proofs.Common.{◌≡◌, ◌≢◌, refl, subst, ℕ, ℤ, Bool, true, false, List, [], ◌∷◌, ◌++◌, Option, None, Some}
 use Rattle.std.specs.Prelude.{if◌then◌else◌}
 use Rattle.gob_tree.specs.declared.unit.Unit.{Unit as TranslationUnit}
 use Rattle.c_meaning.specs.declared.config.Choice.{Choice}
 use Rattle.c_meaning.specs.declared.config.Stepped.TheVariants.{Moved}
 use Rattle.c_meaning.specs.Config.{Config, Effect, Keeps, SetsGlobal, SetsOwner, Starts, after_effect, thread_at}
 use Rattle.c_meaning.specs.Tree.{Frame, FrameStep, Goes, Waits, Fails, TreeStep, MovesTo, IsBlocked, IsFaulted, IsEnded, HasNoThread, outcome_of, thread_step, tree_step, word_of, after_step, has_ended, first_tree}
-use Rattle.c_meaning.specs.Run.{chosen, if_moved, moved_from, IsRun}
+use Rattle.c_meaning.specs.Run.{chosen, if_moved, moved_from}
 use Rattle.c_meaning.specs.Laws.{ChangesAtMost, itself, one_global, one_owner, one_thread_more, StepsChangeLittle, OnlyMovesChange, PrefixesAreRuns}
 
 effect_changes : (c : Config Frame) (t : ℕ) (frames : List Frame) (effect : Effect Frame) → ChangesAtMost c t (after_effect c t frames effect)

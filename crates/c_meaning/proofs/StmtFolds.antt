@@ -1,5 +1,5 @@
 -- A fold over a statement, one level down.
-use Rattle.std.proofs.Common.{◌≡◌, refl, sym, ap, ◌∙◌, ℕ, List, [], ◌∷◌, map, Option, None, Some}
+use Rattle.std.proofs.Common.{◌≡◌, sym, ap, ◌∙◌, ℕ, List, map, Option, None, Some}
 use Rattle.std.specs.Option.{option_map}
 use Rattle.gob_tree.specs.declared.place.Place.{Place}
 use Rattle.gob_tree.specs.declared.expr.Expr.{Expr}
@@ -68,4 +68,3 @@ module _ (X B : Type 0) (step : Stmt-F (X → B) B → X → B) (step' : Placed-
 
   pub fold-Empty : (x : X) → fold-Stmt (X → B) B step step' Empty x ≡ step Stmt-F.Empty x
   fold-Empty x = ap (λ (f : X → B). f x) (ap (fold-Stmt (X → B) B step step') (sym (rolls-Empty)) ∙ fold-roll-Stmt (X → B) B step step' Stmt-F.Empty)
-

@@ -38,10 +38,13 @@ racing_is = ap (λ (d : Draft). racing_with d (draft_of racing_main)) thread_dra
 -- the run after three choices, after the thread's write, after the second read, and in the end
 w3 : Walked
 w3 = racing_at (pos 0) 6 (pos 0 ∷ pos 0 ∷ pos 0 ∷ pos 0 ∷ []) 2 racing_first_moves
+
 w4 : Walked
 w4 = racing_at (pos 1) 6 (pos 0 ∷ pos 0 ∷ pos 0 ∷ pos 0 ∷ []) 3 (racing_first_moves ++ (2, Do 1) ∷ [])
+
 w5 : Walked
 w5 = racing_at (pos 1) 7 (pos 0 ∷ pos 0 ∷ pos 0 ∷ pos 1 ∷ []) 3 (racing_first_moves ++ (2, Do 1) ∷ (1, Do 4) ∷ [])
+
 w6 : Walked
 w6 = racing_at (pos 1) 5 (pos 0 ∷ pos 1 ∷ pos 0 ∷ pos 1 ∷ []) 3 (racing_first_moves ++ (2, Do 1) ∷ (1, Do 4) ∷ (1, Do 5) ∷ [])
 
@@ -90,10 +93,13 @@ joining_is = ap joining_with and_with_input
 -- the run at its start and after each choice
 j0 : Walked
 j0 = joining_at 4 (pos 0 ∷ pos 0 ∷ pos 0 ∷ pos 0 ∷ []) ((1, Do 0) ∷ (1, Do 1) ∷ [])
+
 j1 : Walked
 j1 = joining_at 6 (pos 0 ∷ pos 0 ∷ pos 1 ∷ pos 5 ∷ []) ((1, Do 0) ∷ (1, Do 1) ∷ (1, Do 4) ∷ (1, Do 5) ∷ [])
+
 j2 : Walked
 j2 = joining_at 3 (pos 0 ∷ pos 1 ∷ pos 1 ∷ pos 5 ∷ []) ((1, Do 0) ∷ (1, Do 1) ∷ (1, Do 4) ∷ (1, Do 5) ∷ (1, Do 6) ∷ [])
+
 j3 : Walked
 j3 = joining_at 1 (pos 1 ∷ pos 1 ∷ pos 1 ∷ pos 5 ∷ []) ((1, Do 0) ∷ (1, Do 1) ∷ (1, Do 4) ∷ (1, Do 5) ∷ (1, Do 6) ∷ (1, Do 7) ∷ [])
 
@@ -253,17 +259,24 @@ unfolding at_node
 joining_stands = record {
   globals = refl;
   owners = refl;
-  threads = ((record {
-    func = refl;
-    vars = refl;
-    named = refl;
-    front = record {
-      begin = 2;
-      values = pos 0 ∷ pos 0 ∷ pos 0 ∷ pos 0 ∷ [];
-      begins = front_begins;
-      room = joining_room;
-      same_named = refl;
-      along = joining_along;
-    };
-  }, refl, tt), tt);
+  threads = (
+    (
+      record {
+        func = refl;
+        vars = refl;
+        named = refl;
+        front = record {
+          begin = 2;
+          values = pos 0 ∷ pos 0 ∷ pos 0 ∷ pos 0 ∷ [];
+          begins = front_begins;
+          room = joining_room;
+          same_named = refl;
+          along = joining_along;
+        };
+      },
+      refl,
+      tt,
+    ),
+    tt,
+  );
 }

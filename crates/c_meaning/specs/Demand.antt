@@ -142,7 +142,7 @@ abbrev pub answers_of : List Meaning → List Slot → List ℤ → List ℤ →
 answers_of [] slots values ins = (Ok [], ins)
 answers_of (e ∷ es) slots values ins =
     and_then (e.answer slots values ins) (λ n rest.
-        and_then (answers_of es slots values rest) (λ ns rest'. (Ok (n ∷ ns), rest')))
+    and_then (answers_of es slots values rest) (λ ns rest'. (Ok (n ∷ ns), rest')))
 
 abbrev pub answer_step : Expr-F Meaning → List Slot → List ℤ → List ℤ → Answer ℤ
 answer_step (Expr-F.Number n w) slots values ins = (Ok n, ins)
@@ -153,8 +153,8 @@ answer_step (Expr-F.Unary op a) slots values ins =
     and_then (a.answer slots values ins) (λ n rest. (Ok (unary_value op (a.width slots) n), rest))
 answer_step (Expr-F.Binary op a b) slots values ins =
     and_then (a.answer slots values ins) (λ n rest.
-        decided_or (early_value op n) rest
-            (and_then (b.answer slots values rest) (λ m rest'. (binary_value op (wider (a.width slots) (b.width slots)) n m, rest'))))
+    decided_or (early_value op n) rest
+    (and_then (b.answer slots values rest) (λ m rest'. (binary_value op (wider (a.width slots) (b.width slots)) n m, rest'))))
 answer_step (Expr-F.Call f w args) slots values ins =
     and_then (answers_of args slots values ins) (λ ns rest. next_input (Call f ns) rest)
 

@@ -6,7 +6,7 @@
 --
 -- A reader should check, form by form: which nodes arise, in which order the edges do, what stands
 -- on them, which of them are silent, and the place of each node.
-use Rattle.std.specs.Prelude.{ℕ, zero, suc, ◌+◌, ℤ, pos, Bool, true, false, not, ◌&&◌, ◌||◌, if◌then◌else◌, List, [], ◌∷◌, ◌++◌, map, length, Option, None, Some, nat_eq, slice_get}
+use Rattle.std.specs.Prelude.{ℕ, ◌+◌, pos, Bool, true, false, not, ◌&&◌, ◌||◌, if◌then◌else◌, List, [], ◌∷◌, ◌++◌, map, length, Option, None, Some, nat_eq}
 use Rattle.std.specs.List.{list_any}
 use Rattle.std.specs.Option.{option_map_or}
 use Rattle.gob_tree.specs.declared.place.Place.{Place}
@@ -17,7 +17,6 @@ use Rattle.gob_tree.specs.declared.expr.BinOp.TheVariants.{And, Or, Ne}
 use Rattle.gob_tree.specs.declared.expr.Expr.{Expr, Number, Local, Unary, Binary, fold-Expr}
 use Rattle.gob_tree.specs.declared.expr.Expr.TheOpen.{Expr-F}
 use Rattle.gob_tree.specs.declared.stmt.Target.{Target}
-use Rattle.gob_tree.specs.declared.stmt.Stmt.{Stmt}
 use Rattle.gob_tree.specs.declared.stmt.Stmt.TheOpen.{Stmt-F, Placed-F}
 use Rattle.gob_tree.specs.declared.stmt.Placed.{Placed, fold-Placed}
 use Rattle.gob_tree.specs.declared.unit.Slot.{Slot}
@@ -271,7 +270,7 @@ abbrev pub if_draft : Lowering → Option Lowering → Route → Hoisted Expr �
 if_draft a None r e = a.lower (record r { from = next_node e.1.draft }) (if_head a.start None r.to e)
 if_draft a (Some b) r e =
     b.lower (record r { from = next_node e.1.draft + 1 })
-        (a.lower (record r { from = next_node e.1.draft }) (if_head a.start (Some b.start) r.to e))
+    (a.lower (record r { from = next_node e.1.draft }) (if_head a.start (Some b.start) r.to e))
 
 -- `while`: the guards stand, to the body's node and to the end
 abbrev pub while_head : Place → ℕ → Hoisted Expr → Draft
@@ -305,8 +304,8 @@ for_draft last body place test r e =
     let body_node = next_node e.1.draft in
     let last_node = body_node + 1 in
     part_or_silent last (record r { from = last_node; to = test })
-        (body.lower (body_route body_node last_node r.to)
-            (for_head body.start (option_map_or (λ s. s.start) last place) r.to e))
+    (body.lower (body_route body_node last_node r.to)
+    (for_head body.start (option_map_or (λ s. s.start) last place) r.to e))
 
 -- a missing condition is 1
 abbrev pub condition : Option Expr → Expr

@@ -19,7 +19,7 @@ use Rattle.c_meaning.specs.declared.config.Todo.{Todo}
 use Rattle.c_meaning.specs.declared.config.Todo.TheVariants.{Stmt as Do, Test}
 use Rattle.c_meaning.specs.Demand.{slot_width, value_at, unary_width, unary_value, binary_width, binary_value, early_value, wider, and_then, next_input, decided_or, width_of, demand_of, demands_of}
 use Rattle.c_meaning.specs.Tree.{statements, with_front}
-use Rattle.c_meaning.specs.Graph.{Draft, Route, Spot, Hoisted, next_node, with_edge, hoisting_of, hoist_all, fetch, unary_hoist, binary_join, stop_of, call_fetch, hoisted_expr, hoisted_exprs, last_edge, call_edge, sequence, if_draft, while_draft, do_draft, for_first, for_draft, condition, lowering_of}
+use Rattle.c_meaning.specs.Graph.{Draft, Route, Spot, next_node, with_edge, hoisting_of, hoist_all, fetch, unary_hoist, binary_join, stop_of, call_fetch, hoisted_expr, hoisted_exprs, last_edge, call_edge, sequence, if_draft, while_draft, do_draft, for_first, for_draft, condition, lowering_of}
 
 -- a statement at a place
 abbrev pub placed : Place → Stmt → Placed
@@ -52,8 +52,8 @@ pub record DemandRows : Type 0 where
   pub binary : (op : BinOp) (a b : Expr) (slots : List Slot) (values ins : List ℤ)
       → demand_of (Binary op a b) slots values ins
       ≡ and_then (demand_of a slots values ins) (λ n rest.
-          decided_or (early_value op n) rest
-              (and_then (demand_of b slots values rest) (λ m rest'. (binary_value op (wider (width_of a slots) (width_of b slots)) n m, rest'))))
+      decided_or (early_value op n) rest
+      (and_then (demand_of b slots values rest) (λ m rest'. (binary_value op (wider (width_of a slots) (width_of b slots)) n m, rest'))))
   pub call : (f : ℕ) (w : Width) (args : List Expr) (slots : List Slot) (values ins : List ℤ)
       → demand_of (Call f w args) slots values ins
       ≡ and_then (demands_of args slots values ins) (λ ns rest. next_input (Demand.TheVariants.Call f ns) rest)
@@ -117,7 +117,7 @@ pub record LowerRows : Type 0 where
   pub for_loop : (place : Place) (first : List Placed) (test : Option Expr) (last : Option Placed) (body : Placed) (r : Route) (d : Draft)
       → lowered (placed place (Stmt.For first test last body)) r d
       ≡ for_draft (option_map lowering_of last) (lowering_of body) place (next_node d) r
-          (hoisted_expr (condition test) place (next_node d) (for_first (map lowering_of first) place r d))
+      (hoisted_expr (condition test) place (next_node d) (for_first (map lowering_of first) place r d))
   pub block : (place : Place) (all : List Placed) (r : Route) (d : Draft)
       → lowered (placed place (Stmt.Block all)) r d ≡ sequence (map lowering_of all) r d
   pub break_off : (place : Place) (r : Route) (d : Draft)

@@ -3,7 +3,6 @@ use Rattle.std.specs.Prelude.{ℕ, ℤ, pos, List, [], ◌∷◌, map, Some}
 use Rattle.gob_tree.specs.declared.place.Place.{Place}
 use Rattle.gob_tree.specs.declared.expr.Width.TheVariants.{W32, W64}
 use Rattle.gob_tree.specs.declared.expr.Expr.{Expr, Number}
-use Rattle.gob_tree.specs.declared.stmt.Stmt as Stmt
 use Rattle.gob_tree.specs.declared.stmt.Stmt.{Stmt}
 use Rattle.gob_tree.specs.declared.stmt.Placed.{Placed}
 use Rattle.gob_tree.specs.declared.unit.Slot.{Slot}

@@ -173,10 +173,10 @@ waiting_answers = Moved ∷ Blocked ∷ Moved ∷ Ended ∷ Moved ∷ []
 abbrev pub turning : TranslationUnit
 turning = alone [] [] (int_func (int_slot ∷ int_slot ∷ []) []
     (at 2 3 (Stmt.For
-        (at 2 8 (Stmt.Declare 1 (Some (int 0))) ∷ [])
-        (Some (Binary Lt (Local 1) (int 2)))
-        (Some (at 2 26 (Stmt.Assign (Target.TheVariants.Local 1) (Binary Add (Local 1) (int 1)))))
-        (at 2 31 (Stmt.Block (at 2 33 (Stmt.If (Local 1) (at 2 40 Stmt.Break) None) ∷ at 2 47 Stmt.Continue ∷ []))))
+    (at 2 8 (Stmt.Declare 1 (Some (int 0))) ∷ [])
+    (Some (Binary Lt (Local 1) (int 2)))
+    (Some (at 2 26 (Stmt.Assign (Target.TheVariants.Local 1) (Binary Add (Local 1) (int 1)))))
+    (at 2 31 (Stmt.Block (at 2 33 (Stmt.If (Local 1) (at 2 40 Stmt.Break) None) ∷ at 2 47 Stmt.Continue ∷ []))))
     ∷ returns (int 0) ∷ []))
 
 -- the first part, the test, the branch, `continue`, the last part, the test, the branch, `break`

@@ -3,7 +3,7 @@
 -- A reader should check: what a frame has still to do after each statement, which expressions a
 -- front statement evaluates, what a step gets where an input is missing, what each statement does,
 -- and the order of the answers.
-use Rattle.std.specs.Prelude.{ℕ, ℤ, pos, Bool, true, false, not, if◌then◌else◌, List, [], ◌∷◌, ◌++◌, map, Option, None, Some, Result, Ok, Err, slice_get, slice_index_or, slice_set, nat_eq}
+use Rattle.std.specs.Prelude.{ℕ, ℤ, pos, Bool, true, false, if◌then◌else◌, List, [], ◌∷◌, ◌++◌, map, Option, None, Some, Result, Ok, Err, slice_get, slice_index_or, slice_set, nat_eq}
 use Rattle.std.specs.Option.{option_map_or}
 use Rattle.gob_tree.specs.declared.expr.Width.TheVariants.{W32}
 use Rattle.gob_tree.specs.declared.expr.Expr.{Expr, Number}

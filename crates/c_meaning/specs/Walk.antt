@@ -15,7 +15,7 @@ use Rattle.gob_tree.specs.declared.unit.Slot.{Slot}
 use Rattle.gob_tree.specs.declared.unit.Function.{Function}
 use Rattle.gob_tree.specs.declared.unit.Unit.{Unit as TranslationUnit}
 use Rattle.gob_tree.specs.declared.graph.Action.{Action}
-use Rattle.gob_tree.specs.declared.graph.Action.TheVariants.{Assign, Read, Write, Nondet, Guard, Assert, Lock, Unlock, Create, Join, Call, Skip}
+use Rattle.gob_tree.specs.declared.graph.Action.TheVariants.{Read, Nondet, Create, Call}
 use Rattle.gob_tree.specs.declared.graph.Edge.{Edge}
 use Rattle.gob_tree.specs.declared.graph.Program.{Program}
 use Rattle.c_meaning.specs.declared.config.Todo.{Todo}
@@ -24,7 +24,7 @@ use Rattle.c_meaning.specs.declared.config.Choice.{Choice}
 use Rattle.c_meaning.specs.Demand.{with_slot}
 use Rattle.c_meaning.specs.Config.{Config, thread_at, next_thread}
 use Rattle.c_meaning.specs.Tree as Tree
-use Rattle.c_meaning.specs.Graph.{Draft, Drawn, Route, Hoisted, Lowering, lowering_of, next_node, with_node, hoisted_expr, if_head, while_head, body_route, for_first, for_head, condition, first_draft, first_route, draft_of, graph_slots, Marked, marked_of, program_of}
+use Rattle.c_meaning.specs.Graph.{Draft, Drawn, Route, Hoisted, lowering_of, next_node, with_node, hoisted_expr, if_head, while_head, body_route, for_first, for_head, condition, first_draft, first_route, draft_of, graph_slots, Marked, marked_of, program_of}
 use Rattle.c_meaning.specs.GraphStep as Graph
 use Rattle.c_meaning.specs.GraphStep.{Label, Do, Enter, Leave, local_slots, after_label, edge_at, first_graph}
 
@@ -336,7 +336,7 @@ step_rest m t fresh s =
 abbrev pub after_choice : Marked → Choice → Walked → Option Walked
 after_choice m choice w =
     option_and_then (step_rest m choice.thread (next_thread w.config))
-        (first_edge_step m choice.thread choice.input w 0 (top_drawn m (frames_at w choice.thread)))
+    (first_edge_step m choice.thread choice.input w 0 (top_drawn m (frames_at w choice.thread)))
 
 abbrev pub after_choices : Marked → List Choice → Walked → Option Walked
 after_choices m [] w = Some w

@@ -3,7 +3,6 @@ use Rattle.std.specs.Prelude.{ℕ, ℤ, pos, List, [], ◌∷◌, Option, None, 
 use Rattle.gob_tree.specs.declared.expr.Width.TheVariants.{W32}
 use Rattle.gob_tree.specs.declared.expr.BinOp.TheVariants.{Add, And}
 use Rattle.gob_tree.specs.declared.expr.Expr.{Local, Global, Binary}
-use Rattle.gob_tree.specs.declared.stmt.Stmt as Stmt
 use Rattle.gob_tree.specs.declared.stmt.Stmt.{Stmt}
 use Rattle.gob_tree.specs.declared.graph.Action.TheVariants.{Assign, Read, Write, Create, Call as CallEdge, Skip}
 use Rattle.c_meaning.specs.declared.config.Choice.{Choice}

@@ -4,19 +4,72 @@ ghost use Rattle.c_meaning.specs.Graph.{draft_of};
 ghost use Rattle.c_meaning.specs.Walk.{walk_of, Stands};
 ghost use Rattle.c_meaning.specs.Samples.{answers, left, slots_of};
 ghost use Rattle.c_meaning.specs.StepExamples.{
-    zero_division, top_sum, least_quotient, long_sum, long_slots, long_values, int_slots, two_inputs, early_fault, early_stop,
-    first_choice, two_choices, late_choices, one_fault,
-    relocking, relocking_answers, returning, returning_answers, dividing, dividing_answers,
-    adding, adding_choices, adding_slots, widening, widening_choices, widening_slots,
-    racing, racing_choices, racing_answers, racing_slots,
-    calling, calling_choices, inside_slots, calling_slots, unlocking, joining_none,
-    waiting, waiting_choices, waiting_answers, turning, turning_choices, turning_threads, calling_main, called
+  zero_division,
+  top_sum,
+  least_quotient,
+  long_sum,
+  long_slots,
+  long_values,
+  int_slots,
+  two_inputs,
+  early_fault,
+  early_stop,
+  first_choice,
+  two_choices,
+  late_choices,
+  one_fault,
+  relocking,
+  relocking_answers,
+  returning,
+  returning_answers,
+  dividing,
+  dividing_answers,
+  adding,
+  adding_choices,
+  adding_slots,
+  widening,
+  widening_choices,
+  widening_slots,
+  racing,
+  racing_choices,
+  racing_answers,
+  racing_slots,
+  calling,
+  calling_choices,
+  inside_slots,
+  calling_slots,
+  unlocking,
+  joining_none,
+  waiting,
+  waiting_choices,
+  waiting_answers,
+  turning,
+  turning_choices,
+  turning_threads,
+  calling_main,
+  called,
 };
 ghost use Rattle.c_meaning.specs.GraphExamples.{
-    counting, counting_draft, doubling, doubling_draft, joining, joining_draft, joining_unit, looping, looping_draft
+  counting,
+  counting_draft,
+  doubling,
+  doubling_draft,
+  joining,
+  joining_draft,
+  joining_unit,
+  looping,
+  looping_draft,
 };
 ghost use Rattle.c_meaning.specs.WalkExamples.{
-    called_draft, calling_draft, calling_walk, racing_walk, racing_thread_walk, joining_choices, joining_walk, joining_tree, joining_moment
+  called_draft,
+  calling_draft,
+  calling_walk,
+  racing_walk,
+  racing_thread_walk,
+  joining_choices,
+  joining_walk,
+  joining_tree,
+  joining_moment,
 };
 
 use crate::demand::Demand;
@@ -34,8 +87,7 @@ pub fn expressions_by_hand()
     ensures both_given { demand_of two_inputs [] [] (pos 5 ∷ pos 6 ∷ pos 7 ∷ []) ≡ (Ok (pos 11), pos 7 ∷ []) }
     ensures fault_before_input { value_of early_fault [] [] ≡ Err Demand.Fault }
     ensures stops_early { value_of early_stop [] [] ≡ Ok (pos 0) }
-{
-}
+{}
 
 /// Runs worked out by hand: a second lock of one's own mutex blocks; a thread that isn't there is
 /// no such thread, also where thread 1 has ended; what faults; how a call, a join and a loop go;
@@ -54,8 +106,7 @@ pub fn runs_by_hand()
     ensures inside_call { slots_of (left calling first_choice) ≡ inside_slots }
     ensures after_call { slots_of (left calling calling_choices) ≡ calling_slots }
     ensures loop_turns { (left turning turning_choices).threads ≡ turning_threads }
-{
-}
+{}
 
 /// Graphs worked out by hand: the temporaries, the places of the nodes, and the edges in order
 /// with the silent ones among them.
@@ -65,8 +116,7 @@ pub fn graphs_by_hand()
     ensures and_with_input { draft_of joining ≡ joining_draft }
     ensures bare_for_and_do { draft_of looping ≡ looping_draft }
     ensures call_in_expression { draft_of calling_main ≡ calling_draft }
-{
-}
+{}
 
 /// Walks worked out by hand: those of two threads, one over the silent edges of an `&&`, and one
 /// through a call.
@@ -75,13 +125,11 @@ pub fn walks_by_hand()
     ensures thread { walk_of racing racing_choices 2 ≡ racing_thread_walk }
     ensures over_silent_edges { walk_of joining_unit joining_choices 1 ≡ joining_walk }
     ensures through_a_call { walk_of calling calling_choices 1 ≡ calling_walk }
-{
-}
+{}
 
 /// A tree and a graph at the same moment: after the read of `g` in `int x = 1 && g;` the graph
 /// stands at the node where the two ways of the `&&` join.
 pub fn moment_by_hand()
     ensures tree { left joining_unit first_choice ≡ joining_tree }
     ensures stands { Stands joining_unit joining_tree joining_moment }
-{
-}
+{}
