@@ -6,7 +6,7 @@ use Rattle.c_meaning.specs.declared.demand.Demand.TheVariants.{Nondet, Fault}
 use Rattle.c_meaning.specs.Demand.{value_of, demand_of, with_slot}
 use Rattle.c_meaning.proofs.Evaluation.{steps, expressions}
 use Rattle.c_meaning.specs.Samples.{answers, left, slots_of}
-use Rattle.c_meaning.specs.StepExamples.{first_choice, one_fault, zero_division, top_sum, least_quotient, long_sum, long_slots, long_values, int_slots, two_inputs, early_fault, early_stop, relocking, returning, dividing, adding, widening, racing, racing_choices, calling, calling_choices, inside_slots, calling_slots, unlocking, joining_none, waiting, waiting_choices, waiting_answers, turning, turning_choices, turning_threads, relocking_answers, returning_answers, dividing_answers, racing_answers, two_choices, late_choices, adding_choices, adding_slots, widening_choices, widening_slots, racing_slots}
+use Rattle.c_meaning.specs.StepExamples.{first_choice, one_fault, zero_division, top_sum, least_quotient, long_sum, long_sum_behind, long_slots, long_values, int_slots, two_inputs, early_fault, early_stop, relocking, returning, dividing, adding, widening, racing, racing_choices, calling, calling_choices, inside_slots, calling_slots, unlocking, joining_none, waiting, waiting_choices, waiting_answers, turning, turning_choices, turning_threads, relocking_answers, returning_answers, dividing_answers, racing_answers, two_choices, late_choices, adding_choices, adding_slots, widening_choices, widening_slots, racing_slots}
 
 -- ---- expressions
 
@@ -24,6 +24,10 @@ least_by_minus_one = simp (expressions, value_of, demand_of)
 pub long_and_int : value_of long_sum long_slots long_values ≡ Ok (pos 2147483648)
 unfolding int_wrap
 long_and_int = simp (expressions, value_of, demand_of)
+
+pub int_and_long : value_of long_sum_behind long_slots long_values ≡ Ok (pos 2147483648)
+unfolding int_wrap
+int_and_long = simp (expressions, value_of, demand_of)
 
 pub long_into_int : with_slot int_slots 1 (pos 2147483648) (pos 0 ∷ pos 0 ∷ []) ≡ pos 0 ∷ negsuc 2147483647 ∷ []
 unfolding int_wrap

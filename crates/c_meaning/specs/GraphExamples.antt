@@ -51,7 +51,8 @@ counting_draft = record {
 
 -- int main(void) { int x = g + g; return x; }, whose slots 2 and 3 are temporaries
 abbrev pub doubling : Function
-doubling = int_func (int_slot ∷ int_slot ∷ []) [] (at 2 3 (Stmt.Declare 1 (Some (Binary Add (Global 0 W32) (Global 0 W32)))) ∷ returns (Local 1) ∷ [])
+doubling = int_func (int_slot ∷ int_slot ∷ []) []
+    (at 2 3 (Stmt.Declare 1 (Some (Binary Add (Global 0 W32) (Global 0 W32)))) ∷ returns (Local 1) ∷ [])
 
 abbrev pub doubling_draft : Draft
 doubling_draft = record {
@@ -69,7 +70,8 @@ doubling_draft = record {
 
 -- int main(void) { int x = 1 && g; return x; }
 abbrev pub joining : Function
-joining = int_func (int_slot ∷ int_slot ∷ []) [] (at 2 3 (Stmt.Declare 1 (Some (Binary And (int 1) (Global 0 W32)))) ∷ returns (Local 1) ∷ [])
+joining = int_func (int_slot ∷ int_slot ∷ []) []
+    (at 2 3 (Stmt.Declare 1 (Some (Binary And (int 1) (Global 0 W32)))) ∷ returns (Local 1) ∷ [])
 
 abbrev pub joining_draft : Draft
 joining_draft = record {

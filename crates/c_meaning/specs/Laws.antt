@@ -33,7 +33,8 @@ pub data ChangesAtMost (old : Config Frame) (t : ℕ) (new : Config Frame) : Typ
       → new.threads ≡ with_thread old.threads t frames → ChangesAtMost old t new
   one_global : (frames : List Frame) → (g : ℕ) → (n : ℤ) → new.globals ≡ slice_set old.globals g n → new.owners ≡ old.owners
       → new.threads ≡ with_thread old.threads t frames → ChangesAtMost old t new
-  one_owner : (frames : List Frame) → (m : ℕ) → (owner : Option ℕ) → new.globals ≡ old.globals → new.owners ≡ slice_set old.owners m owner
+  one_owner : (frames : List Frame) → (m : ℕ) → (owner : Option ℕ) → new.globals ≡ old.globals
+      → new.owners ≡ slice_set old.owners m owner
       → new.threads ≡ with_thread old.threads t frames → ChangesAtMost old t new
   one_thread_more : (frames : List Frame) → (frame : Frame) → new.globals ≡ old.globals → new.owners ≡ old.owners
       → new.threads ≡ with_thread old.threads t frames ++ (frame ∷ []) ∷ [] → ChangesAtMost old t new
@@ -59,7 +60,8 @@ PrefixesAreRuns =
 -- a path of one silent edge or more
 pub data SilentPath (drawn : List Drawn) : ℕ → ℕ → Type 0 where
   last_edge : (d : Drawn) → Contains drawn d → d.silent ≡ true → SilentPath drawn d.edge.from d.edge.to
-  first_edge : (d : Drawn) → (to : ℕ) → Contains drawn d → d.silent ≡ true → SilentPath drawn d.edge.to to → SilentPath drawn d.edge.from to
+  first_edge : (d : Drawn) → (to : ℕ) → Contains drawn d → d.silent ≡ true → SilentPath drawn d.edge.to to
+      → SilentPath drawn d.edge.from to
 
 -- the silent edges of a function form no circle
 abbrev pub SilentEdgesEnd : Type 0

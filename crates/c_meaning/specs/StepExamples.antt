@@ -35,6 +35,10 @@ least_quotient = Binary Div (Number (negsuc 2147483647) W32) (Number (negsuc 0) 
 abbrev pub long_sum : Expr
 long_sum = Binary Add (Local 1) (int 1)
 
+-- the same from the other side
+abbrev pub long_sum_behind : Expr
+long_sum_behind = Binary Add (int 1) (Local 1)
+
 abbrev pub long_slots : List Slot
 long_slots = int_slot ∷ long_slot ∷ []
 
@@ -74,18 +78,29 @@ dividing = alone [] [] (int_func (int_slot ∷ int_slot ∷ int_slot ∷ []) []
 -- int main(void) { int x = __VERIFIER_nondet_int(); int y = x + 1; return y; }
 abbrev pub adding : TranslationUnit
 adding = alone [] [] (int_func (int_slot ∷ int_slot ∷ int_slot ∷ []) []
-    (at 2 3 (Stmt.Declare 1 (Some (Nondet W32))) ∷ at 3 3 (Stmt.Declare 2 (Some (Binary Add (Local 1) (int 1)))) ∷ returns (Local 2) ∷ []))
+    (at 2 3 (Stmt.Declare 1 (Some (Nondet W32)))
+    ∷ at 3 3 (Stmt.Declare 2 (Some (Binary Add (Local 1) (int 1))))
+    ∷ returns (Local 2)
+    ∷ []))
 
 -- long t = 2147483647; int main(void) { long a = t + 1; int b = a; return b; }
 abbrev pub widening : TranslationUnit
-widening = alone (record { name = []; width = W64; initial = pos 2147483647 } ∷ []) [] (int_func (int_slot ∷ long_slot ∷ int_slot ∷ []) []
-    (at 3 3 (Stmt.Declare 1 (Some (Binary Add (Global 0 W64) (int 1)))) ∷ at 4 3 (Stmt.Declare 2 (Some (Local 1))) ∷ returns (Local 2) ∷ []))
+widening = alone (record { name = []; width = W64; initial = pos 2147483647 } ∷ []) []
+    (int_func (int_slot ∷ long_slot ∷ int_slot ∷ []) []
+    (at 3 3 (Stmt.Declare 1 (Some (Binary Add (Global 0 W64) (int 1))))
+    ∷ at 4 3 (Stmt.Declare 2 (Some (Local 1)))
+    ∷ returns (Local 2)
+    ∷ []))
 
 -- int g = 0; void *w(void *a) { g = 1; return NULL; }
 -- int main(void) { pthread_t t; pthread_create(&t, NULL, w, NULL); int x = g + g; return x; }
 abbrev pub racing_main : Function
 racing_main = int_func (int_slot ∷ int_slot ∷ []) ([] ∷ [])
-    (at 4 3 (Stmt.DeclareThread 0) ∷ at 5 3 (Stmt.Create 0 0) ∷ at 6 3 (Stmt.Declare 1 (Some (Binary Add (Global 0 W32) (Global 0 W32)))) ∷ at 7 3 (Stmt.Return (Some (Local 1))) ∷ [])
+    (at 4 3 (Stmt.DeclareThread 0)
+    ∷ at 5 3 (Stmt.Create 0 0)
+    ∷ at 6 3 (Stmt.Declare 1 (Some (Binary Add (Global 0 W32) (Global 0 W32))))
+    ∷ at 7 3 (Stmt.Return (Some (Local 1)))
+    ∷ [])
 
 abbrev pub racing_thread : Function
 racing_thread = record {
@@ -107,7 +122,8 @@ racing_choices = choice 1 0 ∷ choice 1 0 ∷ choice 1 0 ∷ choice 2 0 ∷ cho
 
 -- int f(int n) { return n + 1; } int main(void) { int x = f(1); return x; }
 abbrev pub calling_main : Function
-calling_main = int_func (int_slot ∷ int_slot ∷ []) [] (at 3 3 (Stmt.Declare 1 (Some (Call 0 W32 (int 1 ∷ [])))) ∷ returns (Local 1) ∷ [])
+calling_main = int_func (int_slot ∷ int_slot ∷ []) []
+    (at 3 3 (Stmt.Declare 1 (Some (Call 0 W32 (int 1 ∷ [])))) ∷ returns (Local 1) ∷ [])
 
 abbrev pub called : Function
 called = record {
@@ -140,7 +156,8 @@ unlocking = alone [] ([] ∷ []) (int_func (int_slot ∷ []) [] (at 2 3 (Stmt.Un
 
 -- int main(void) { pthread_t t; pthread_join(t, NULL); return 0; }
 abbrev pub joining_none : TranslationUnit
-joining_none = alone [] [] (int_func (int_slot ∷ []) ([] ∷ []) (at 2 3 (Stmt.DeclareThread 0) ∷ at 3 3 (Stmt.Join 0) ∷ returns (int 0) ∷ []))
+joining_none = alone [] [] (int_func (int_slot ∷ []) ([] ∷ [])
+    (at 2 3 (Stmt.DeclareThread 0) ∷ at 3 3 (Stmt.Join 0) ∷ returns (int 0) ∷ []))
 
 -- void *w(void *a) { return NULL; }
 -- int main(void) { pthread_t t; pthread_create(&t, NULL, w, NULL); pthread_join(t, NULL); return 0; }
@@ -185,7 +202,8 @@ abbrev pub turning_choices : List Choice
 turning_choices = choice 1 0 ∷ choice 1 0 ∷ choice 1 0 ∷ choice 1 0 ∷ choice 1 0 ∷ choice 1 0 ∷ choice 1 0 ∷ choice 1 0 ∷ []
 
 abbrev pub turning_threads : List (List Frame)
-turning_threads = (record { func = 0; todo = Doing (returns (int 0)) ∷ []; slots = pos 0 ∷ pos 1 ∷ []; vars = []; ins = [] } ∷ []) ∷ []
+turning_threads =
+    (record { func = 0; todo = Doing (returns (int 0)) ∷ []; slots = pos 0 ∷ pos 1 ∷ []; vars = []; ins = [] } ∷ []) ∷ []
 
 -- what the choices of the rows come to, with the numbers that they give
 abbrev pub relocking_answers : List Stepped

@@ -45,7 +45,12 @@ racing_main_draft = record {
 
 abbrev pub racing_with : Draft → Draft → Marked
 racing_with thread main = record {
-  program = record { funcs = graph_with racing_thread thread ∷ graph_with racing_main main ∷ []; globals = global (pos 0) ∷ []; mutexes = []; main = 1 };
+  program = record {
+    funcs = graph_with racing_thread thread ∷ graph_with racing_main main ∷ [];
+    globals = global (pos 0) ∷ [];
+    mutexes = [];
+    main = 1;
+  };
   drawn = thread.drawn ∷ main.drawn ∷ [];
 }
 

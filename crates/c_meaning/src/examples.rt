@@ -8,6 +8,7 @@ ghost use Rattle.c_meaning.specs.StepExamples.{
   top_sum,
   least_quotient,
   long_sum,
+  long_sum_behind,
   long_slots,
   long_values,
   int_slots,
@@ -82,6 +83,7 @@ pub fn expressions_by_hand()
     ensures sum_wraps { value_of top_sum [] [] ≡ Ok (negsuc 2147483647) }
     ensures least_by_minus_one { value_of least_quotient [] [] ≡ Ok (negsuc 2147483647) }
     ensures long_and_int { value_of long_sum long_slots long_values ≡ Ok (pos 2147483648) }
+    ensures int_and_long { value_of long_sum_behind long_slots long_values ≡ Ok (pos 2147483648) }
     ensures long_into_int { with_slot int_slots 1 (pos 2147483648) (pos 0 ∷ pos 0 ∷ []) ≡ pos 0 ∷ negsuc 2147483647 ∷ [] }
     ensures second_missing { demand_of two_inputs [] [] (pos 5 ∷ []) ≡ (Err (Demand.Nondet Width.W32), []) }
     ensures both_given { demand_of two_inputs [] [] (pos 5 ∷ pos 6 ∷ pos 7 ∷ []) ≡ (Ok (pos 11), pos 7 ∷ []) }

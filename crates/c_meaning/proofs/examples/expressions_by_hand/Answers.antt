@@ -27,3 +27,6 @@ returns-clause-fault_before_input c = examples.fault_before_input
 
 pub returns-clause-stops_early : goal.returns-clause-stops_early
 returns-clause-stops_early c = examples.stops_early
+
+pub returns-clause-int_and_long : goal.returns-clause-int_and_long
+returns-clause-int_and_long c = examples.int_and_long
