@@ -1,0 +1,17 @@
+pub mod Begins
+pub mod DemandLaws
+pub mod Evaluation
+pub mod Folds
+pub mod Fronts
+pub mod GraphExampleProofs
+pub mod Growth
+pub mod Induct
+pub mod Lowerings
+pub mod RowProofs
+pub mod SilentHoists
+pub mod SilentStmts
+pub mod Settling
+pub mod StepExampleProofs
+pub mod StepLaws
+pub mod StmtFolds
+pub mod WalkExampleProofs

@@ -1,0 +1,121 @@
+-- Graphs of small functions, by hand.
+use Rattle.std.specs.Prelude.{ℕ, pos, true, false, [], ◌∷◌, None, Some}
+use Rattle.gob_tree.specs.declared.expr.Width.TheVariants.{W32}
+use Rattle.gob_tree.specs.declared.expr.BinOp.TheVariants.{Add, Lt, Ne, And}
+use Rattle.gob_tree.specs.declared.expr.Expr.{Local, Global, Binary}
+use Rattle.gob_tree.specs.declared.stmt.Target as Target
+use Rattle.gob_tree.specs.declared.stmt.Stmt as Stmt
+use Rattle.gob_tree.specs.declared.stmt.Stmt.{Stmt}
+use Rattle.gob_tree.specs.declared.unit.Function.{Function}
+use Rattle.gob_tree.specs.declared.unit.Unit.{Unit as TranslationUnit}
+use Rattle.gob_tree.specs.declared.graph.Action.{Action}
+use Rattle.gob_tree.specs.declared.graph.Action.TheVariants.{Assign, Read, Guard, Skip}
+use Rattle.gob_tree.specs.declared.graph.Edge.{Edge}
+use Rattle.c_meaning.specs.Graph.{Drawn, Draft}
+use Rattle.c_meaning.specs.Samples.{place, at, int, int_slot, global, int_func, returns, alone}
+
+abbrev pub edge : ℕ → Action → ℕ → Edge
+edge from act to = record { from = from; act = act; to = to }
+
+-- a silent edge, and one that isn't
+abbrev pub quiet : ℕ → Action → ℕ → Drawn
+quiet from act to = record { edge = edge from act to; silent = true }
+
+abbrev pub loud : ℕ → Action → ℕ → Drawn
+loud from act to = record { edge = edge from act to; silent = false }
+
+-- ---- graphs
+
+-- int main(void) { int i = 0; while (i < 10) i++; return i; }
+abbrev pub counting : Function
+counting = int_func (int_slot ∷ int_slot ∷ []) []
+    (at 2 3 (Stmt.Declare 1 (Some (int 0)))
+    ∷ at 3 3 (Stmt.While (Binary Lt (Local 1) (int 10)) (at 3 18 (Stmt.Assign (Target.TheVariants.Local 1) (Binary Add (Local 1) (int 1)))))
+    ∷ at 4 3 (Stmt.Return (Some (Local 1)))
+    ∷ [])
+
+abbrev pub counting_draft : Draft
+counting_draft = record {
+  named = 2;
+  temps = [];
+  nodes = place 1 5 ∷ place 9 1 ∷ place 2 3 ∷ place 3 3 ∷ place 4 3 ∷ place 3 18 ∷ [];
+  drawn =
+      quiet 0 Skip 2
+      ∷ loud 2 (Assign 1 (int 0)) 3
+      ∷ loud 3 (Guard (Binary Lt (Local 1) (int 10)) true) 5
+      ∷ loud 3 (Guard (Binary Lt (Local 1) (int 10)) false) 4
+      ∷ loud 5 (Assign 1 (Binary Add (Local 1) (int 1))) 3
+      ∷ loud 4 (Assign 0 (Local 1)) 1
+      ∷ [];
+}
+
+-- int main(void) { int x = g + g; return x; }, whose slots 2 and 3 are temporaries
+abbrev pub doubling : Function
+doubling = int_func (int_slot ∷ int_slot ∷ []) []
+    (at 2 3 (Stmt.Declare 1 (Some (Binary Add (Global 0 W32) (Global 0 W32)))) ∷ returns (Local 1) ∷ [])
+
+abbrev pub doubling_draft : Draft
+doubling_draft = record {
+  named = 2;
+  temps = W32 ∷ W32 ∷ [];
+  nodes = place 1 5 ∷ place 9 1 ∷ place 2 3 ∷ place 8 3 ∷ place 2 3 ∷ place 2 3 ∷ [];
+  drawn =
+      quiet 0 Skip 2
+      ∷ loud 2 (Read 2 0) 4
+      ∷ loud 4 (Read 3 0) 5
+      ∷ loud 5 (Assign 1 (Binary Add (Local 2) (Local 3))) 3
+      ∷ loud 3 (Assign 0 (Local 1)) 1
+      ∷ [];
+}
+
+-- int main(void) { int x = 1 && g; return x; }
+abbrev pub joining : Function
+joining = int_func (int_slot ∷ int_slot ∷ []) []
+    (at 2 3 (Stmt.Declare 1 (Some (Binary And (int 1) (Global 0 W32)))) ∷ returns (Local 1) ∷ [])
+
+abbrev pub joining_draft : Draft
+joining_draft = record {
+  named = 2;
+  temps = W32 ∷ W32 ∷ [];
+  nodes = place 1 5 ∷ place 9 1 ∷ place 2 3 ∷ place 8 3 ∷ place 2 3 ∷ place 2 3 ∷ place 2 3 ∷ place 2 3 ∷ [];
+  drawn =
+      quiet 0 Skip 2
+      ∷ quiet 2 (Guard (int 1) true) 4
+      ∷ quiet 2 (Guard (int 1) false) 5
+      ∷ quiet 5 (Assign 2 (int 0)) 6
+      ∷ loud 4 (Read 3 0) 7
+      ∷ quiet 7 (Assign 2 (Binary Ne (Local 3) (int 0))) 6
+      ∷ loud 6 (Assign 1 (Local 2)) 3
+      ∷ loud 3 (Assign 0 (Local 1)) 1
+      ∷ [];
+}
+
+abbrev pub joining_unit : TranslationUnit
+joining_unit = alone (global (pos 5) ∷ []) [] joining
+
+-- int main(void) { for (;;) { continue; } do ; while (0); return 0; }
+abbrev pub looping : Function
+looping = int_func (int_slot ∷ []) []
+    (at 2 3 (Stmt.For [] None None (at 2 12 (Stmt.Block (at 2 14 Stmt.Continue ∷ []))))
+    ∷ at 3 3 (Stmt.DoWhile (at 3 6 Stmt.Empty) (int 0))
+    ∷ returns (int 0)
+    ∷ [])
+
+abbrev pub looping_draft : Draft
+looping_draft = record {
+  named = 1;
+  temps = [];
+  nodes = place 1 5 ∷ place 9 1 ∷ place 2 3 ∷ place 3 6 ∷ place 2 3 ∷ place 2 14 ∷ place 2 3 ∷ place 8 3 ∷ place 3 3 ∷ [];
+  drawn =
+      quiet 0 Skip 2
+      ∷ quiet 2 Skip 4
+      ∷ loud 4 (Guard (int 1) true) 5
+      ∷ loud 4 (Guard (int 1) false) 3
+      ∷ loud 5 Skip 6
+      ∷ quiet 6 Skip 4
+      ∷ loud 3 Skip 8
+      ∷ loud 8 (Guard (int 0) true) 3
+      ∷ loud 8 (Guard (int 0) false) 7
+      ∷ loud 7 (Assign 0 (int 0)) 1
+      ∷ [];
+}

@@ -1,0 +1,13 @@
+pub mod Config
+pub mod Demand
+pub mod Graph
+pub mod GraphExamples
+pub mod GraphStep
+pub mod Laws
+pub mod Rows
+pub mod Run
+pub mod Samples
+pub mod StepExamples
+pub mod Tree
+pub mod Walk
+pub mod WalkExamples

@@ -1,0 +1,162 @@
+-- Walks of small programs, and a tree and a graph at the same moment, by hand.
+use Rattle.std.specs.Prelude.{ℕ, ℤ, pos, List, [], ◌∷◌, Option, None, Some}
+use Rattle.gob_tree.specs.declared.expr.Width.TheVariants.{W32}
+use Rattle.gob_tree.specs.declared.expr.BinOp.TheVariants.{Add, And}
+use Rattle.gob_tree.specs.declared.expr.Expr.{Local, Global, Binary}
+use Rattle.gob_tree.specs.declared.stmt.Stmt.{Stmt}
+use Rattle.gob_tree.specs.declared.graph.Action.TheVariants.{Assign, Read, Write, Create, Call as CallEdge, Skip}
+use Rattle.c_meaning.specs.declared.config.Choice.{Choice}
+use Rattle.c_meaning.specs.declared.config.Todo.TheVariants.{Stmt as Doing}
+use Rattle.c_meaning.specs.Config.{Config}
+use Rattle.c_meaning.specs.Tree.{Frame}
+use Rattle.c_meaning.specs.Graph.{Draft, graph_with, Marked}
+use Rattle.c_meaning.specs.GraphStep.{Label, Do, Enter, Leave}
+use Rattle.c_meaning.specs.GraphStep as Graph
+use Rattle.c_meaning.specs.Walk.{Move, Walked}
+use Rattle.c_meaning.specs.Samples.{place, at, int, global, returns, choice}
+use Rattle.c_meaning.specs.StepExamples.{racing_main, racing_thread, calling_main, called}
+use Rattle.c_meaning.specs.GraphExamples.{quiet, loud, joining}
+
+-- ---- walks
+
+abbrev pub racing_thread_draft : Draft
+racing_thread_draft = record {
+  named = 1;
+  temps = [];
+  nodes = place 2 7 ∷ place 2 41 ∷ place 2 20 ∷ place 2 27 ∷ [];
+  drawn = quiet 0 Skip 2 ∷ loud 2 (Write 0 (int 1)) 3 ∷ loud 3 Skip 1 ∷ [];
+}
+
+abbrev pub racing_main_draft : Draft
+racing_main_draft = record {
+  named = 2;
+  temps = W32 ∷ W32 ∷ [];
+  nodes = place 1 5 ∷ place 9 1 ∷ place 4 3 ∷ place 5 3 ∷ place 6 3 ∷ place 7 3 ∷ place 6 3 ∷ place 6 3 ∷ [];
+  drawn =
+      quiet 0 Skip 2
+      ∷ loud 2 Skip 3
+      ∷ loud 3 (Create 0 0) 4
+      ∷ loud 4 (Read 2 0) 6
+      ∷ loud 6 (Read 3 0) 7
+      ∷ loud 7 (Assign 1 (Binary Add (Local 2) (Local 3))) 5
+      ∷ loud 5 (Assign 0 (Local 1)) 1
+      ∷ [];
+}
+
+abbrev pub racing_with : Draft → Draft → Marked
+racing_with thread main = record {
+  program = record {
+    funcs = graph_with racing_thread thread ∷ graph_with racing_main main ∷ [];
+    globals = global (pos 0) ∷ [];
+    mutexes = [];
+    main = 1;
+  };
+  drawn = thread.drawn ∷ main.drawn ∷ [];
+}
+
+abbrev pub racing_marked : Marked
+racing_marked = racing_with racing_thread_draft racing_main_draft
+
+-- how far the two threads have got, where g has this value
+abbrev pub racing_at : ℤ → ℕ → List ℤ → ℕ → List Move → Walked
+racing_at g main_node main_slots thread_node moves = record {
+  moves = moves;
+  config = record {
+    globals = g ∷ [];
+    owners = [];
+    threads =
+        (record { func = 1; node = main_node; slots = main_slots; vars = Some 2 ∷ []; waits = None } ∷ [])
+        ∷ (record { func = 0; node = thread_node; slots = pos 0 ∷ []; vars = []; waits = None } ∷ [])
+        ∷ [];
+  };
+}
+
+abbrev pub racing_first_moves : List Move
+racing_first_moves = (1, Do 0) ∷ (1, Do 1) ∷ (1, Do 2) ∷ (2, Do 0) ∷ (1, Do 3) ∷ []
+
+abbrev pub racing_walk : List Label
+racing_walk = Do 0 ∷ Do 1 ∷ Do 2 ∷ Do 3 ∷ Do 4 ∷ Do 5 ∷ []
+
+abbrev pub racing_thread_walk : List Label
+racing_thread_walk = Do 0 ∷ Do 1 ∷ []
+
+abbrev pub joining_with : Draft → Marked
+joining_with main = record {
+  program = record { funcs = graph_with joining main ∷ []; globals = global (pos 5) ∷ []; mutexes = []; main = 0 };
+  drawn = main.drawn ∷ [];
+}
+
+abbrev pub joining_at : ℕ → List ℤ → List Move → Walked
+joining_at node slots moves = record {
+  moves = moves;
+  config = record {
+    globals = pos 5 ∷ [];
+    owners = [];
+    threads = (record { func = 0; node = node; slots = slots; vars = []; waits = None } ∷ []) ∷ [];
+  };
+}
+
+-- the guard of 1 and the assignment after the read are silent, and lead to the join node
+abbrev pub joining_choices : List Choice
+joining_choices = choice 1 0 ∷ choice 1 0 ∷ choice 1 0 ∷ []
+
+abbrev pub joining_walk : List Label
+joining_walk = Do 0 ∷ Do 1 ∷ Do 4 ∷ Do 5 ∷ Do 6 ∷ Do 7 ∷ []
+
+abbrev pub called_draft : Draft
+called_draft = record {
+  named = 2;
+  temps = [];
+  nodes = place 1 5 ∷ place 1 30 ∷ place 1 16 ∷ [];
+  drawn = quiet 0 Skip 2 ∷ loud 2 (Assign 0 (Binary Add (Local 1) (int 1))) 1 ∷ [];
+}
+
+abbrev pub calling_draft : Draft
+calling_draft = record {
+  named = 2;
+  temps = W32 ∷ [];
+  nodes = place 1 5 ∷ place 9 1 ∷ place 3 3 ∷ place 8 3 ∷ place 3 3 ∷ [];
+  drawn =
+      quiet 0 Skip 2
+      ∷ loud 2 (CallEdge (Some 2) 0 (int 1 ∷ [])) 4
+      ∷ loud 4 (Assign 1 (Local 2)) 3
+      ∷ loud 3 (Assign 0 (Local 1)) 1
+      ∷ [];
+}
+
+abbrev pub calling_with : Draft → Draft → Marked
+calling_with callee main = record {
+  program = record { funcs = graph_with called callee ∷ graph_with calling_main main ∷ []; globals = []; mutexes = []; main = 1 };
+  drawn = callee.drawn ∷ main.drawn ∷ [];
+}
+
+abbrev pub calling_at : List Graph.Frame → List Move → Walked
+calling_at frames moves = record { moves = moves; config = record { globals = []; owners = []; threads = frames ∷ [] } }
+
+abbrev pub calling_frame : ℕ → List ℤ → Option ℕ → Graph.Frame
+calling_frame node slots waits = record { func = 1; node = node; slots = slots; vars = []; waits = waits }
+
+abbrev pub called_frame : Graph.Frame
+called_frame = record { func = 0; node = 2; slots = pos 0 ∷ pos 1 ∷ []; vars = []; waits = None }
+
+abbrev pub calling_walk : List Label
+calling_walk = Do 0 ∷ Enter 1 ∷ Do 0 ∷ Do 1 ∷ Leave ∷ Do 2 ∷ []
+
+-- ---- standing
+
+-- the tree of `int x = 1 && g;` after g was read, and the graph at the join node
+abbrev pub joining_tree : Config Frame
+joining_tree = record {
+  globals = pos 5 ∷ [];
+  owners = [];
+  threads = (record {
+    func = 0;
+    todo = Doing (at 2 3 (Stmt.Declare 1 (Some (Binary And (int 1) (Global 0 W32))))) ∷ Doing (returns (Local 1)) ∷ [];
+    slots = pos 0 ∷ pos 0 ∷ [];
+    vars = [];
+    ins = pos 5 ∷ [];
+  } ∷ []) ∷ [];
+}
+
+abbrev pub joining_moment : Config Graph.Frame
+joining_moment = (joining_at 6 (pos 0 ∷ pos 0 ∷ pos 1 ∷ pos 5 ∷ []) []).config

@@ -1,0 +1,137 @@
+ghost use Rattle.std.specs.Prelude.{◌≡◌, pos, negsuc, [], ◌∷◌, Ok, Err};
+ghost use Rattle.c_meaning.specs.Demand.{demand_of, value_of, with_slot};
+ghost use Rattle.c_meaning.specs.Graph.{draft_of};
+ghost use Rattle.c_meaning.specs.Walk.{walk_of, Stands};
+ghost use Rattle.c_meaning.specs.Samples.{answers, left, slots_of};
+ghost use Rattle.c_meaning.specs.StepExamples.{
+  zero_division,
+  top_sum,
+  least_quotient,
+  long_sum,
+  long_sum_behind,
+  long_slots,
+  long_values,
+  int_slots,
+  two_inputs,
+  early_fault,
+  early_stop,
+  first_choice,
+  two_choices,
+  late_choices,
+  one_fault,
+  relocking,
+  relocking_answers,
+  returning,
+  returning_answers,
+  dividing,
+  dividing_answers,
+  adding,
+  adding_choices,
+  adding_slots,
+  widening,
+  widening_choices,
+  widening_slots,
+  racing,
+  racing_choices,
+  racing_answers,
+  racing_slots,
+  calling,
+  calling_choices,
+  inside_slots,
+  calling_slots,
+  unlocking,
+  joining_none,
+  waiting,
+  waiting_choices,
+  waiting_answers,
+  turning,
+  turning_choices,
+  turning_threads,
+  calling_main,
+  called,
+};
+ghost use Rattle.c_meaning.specs.GraphExamples.{
+  counting,
+  counting_draft,
+  doubling,
+  doubling_draft,
+  joining,
+  joining_draft,
+  joining_unit,
+  looping,
+  looping_draft,
+};
+ghost use Rattle.c_meaning.specs.WalkExamples.{
+  called_draft,
+  calling_draft,
+  calling_walk,
+  racing_walk,
+  racing_thread_walk,
+  joining_choices,
+  joining_walk,
+  joining_tree,
+  joining_moment,
+};
+
+use crate::demand::Demand;
+use gob_tree::Width;
+
+/// Expressions worked out by hand: what faults, what wraps and at which width, in which order
+/// inputs are asked for, and what stops early (C17, 6.5).
+pub fn expressions_by_hand()
+    ensures division_by_zero { value_of zero_division [] [] ≡ Err Demand.Fault }
+    ensures sum_wraps { value_of top_sum [] [] ≡ Ok (negsuc 2147483647) }
+    ensures least_by_minus_one { value_of least_quotient [] [] ≡ Ok (negsuc 2147483647) }
+    ensures long_and_int { value_of long_sum long_slots long_values ≡ Ok (pos 2147483648) }
+    ensures int_and_long { value_of long_sum_behind long_slots long_values ≡ Ok (pos 2147483648) }
+    ensures long_into_int { with_slot int_slots 1 (pos 2147483648) (pos 0 ∷ pos 0 ∷ []) ≡ pos 0 ∷ negsuc 2147483647 ∷ [] }
+    ensures second_missing { demand_of two_inputs [] [] (pos 5 ∷ []) ≡ (Err (Demand.Nondet Width.W32), []) }
+    ensures both_given { demand_of two_inputs [] [] (pos 5 ∷ pos 6 ∷ pos 7 ∷ []) ≡ (Ok (pos 11), pos 7 ∷ []) }
+    ensures fault_before_input { value_of early_fault [] [] ≡ Err Demand.Fault }
+    ensures stops_early { value_of early_stop [] [] ≡ Ok (pos 0) }
+{}
+
+/// Runs worked out by hand: a second lock of one's own mutex blocks; a thread that isn't there is
+/// no such thread, also where thread 1 has ended; what faults; how a call, a join and a loop go;
+/// the values that the slots get.
+pub fn runs_by_hand()
+    ensures second_lock { answers relocking two_choices ≡ relocking_answers }
+    ensures no_thread_before_ended { answers returning late_choices ≡ returning_answers }
+    ensures division { answers dividing two_choices ≡ dividing_answers }
+    ensures unlock_of_free { answers unlocking first_choice ≡ one_fault }
+    ensures join_of_none { answers joining_none two_choices ≡ dividing_answers }
+    ensures join_waits { answers waiting waiting_choices ≡ waiting_answers }
+    ensures sum_above_greatest { slots_of (left adding adding_choices) ≡ adding_slots }
+    ensures long_and_int { slots_of (left widening widening_choices) ≡ widening_slots }
+    ensures two_threads { answers racing racing_choices ≡ racing_answers }
+    ensures two_reads { slots_of (left racing racing_choices) ≡ racing_slots }
+    ensures inside_call { slots_of (left calling first_choice) ≡ inside_slots }
+    ensures after_call { slots_of (left calling calling_choices) ≡ calling_slots }
+    ensures loop_turns { (left turning turning_choices).threads ≡ turning_threads }
+{}
+
+/// Graphs worked out by hand: the temporaries, the places of the nodes, and the edges in order
+/// with the silent ones among them.
+pub fn graphs_by_hand()
+    ensures counting { draft_of counting ≡ counting_draft }
+    ensures two_reads { draft_of doubling ≡ doubling_draft }
+    ensures and_with_input { draft_of joining ≡ joining_draft }
+    ensures bare_for_and_do { draft_of looping ≡ looping_draft }
+    ensures call_in_expression { draft_of calling_main ≡ calling_draft }
+{}
+
+/// Walks worked out by hand: those of two threads, one over the silent edges of an `&&`, and one
+/// through a call.
+pub fn walks_by_hand()
+    ensures main { walk_of racing racing_choices 1 ≡ racing_walk }
+    ensures thread { walk_of racing racing_choices 2 ≡ racing_thread_walk }
+    ensures over_silent_edges { walk_of joining_unit joining_choices 1 ≡ joining_walk }
+    ensures through_a_call { walk_of calling calling_choices 1 ≡ calling_walk }
+{}
+
+/// A tree and a graph at the same moment: after the read of `g` in `int x = 1 && g;` the graph
+/// stands at the node where the two ways of the `&&` join.
+pub fn moment_by_hand()
+    ensures tree { left joining_unit first_choice ≡ joining_tree }
+    ensures stands { Stands joining_unit joining_tree joining_moment }
+{}

@@ -1,0 +1,21 @@
+//! What a program of GobPie's C profile means, as definitions: the value of an expression, the
+//! steps of syntax trees, the graph of a function, the steps of graphs, and how the two belong
+//! together. The definitions stand in `specs/`; the functions here carry laws about them.
+#![tactic(auto)]
+
+mod config;
+mod demand;
+mod examples;
+mod laws;
+mod rows;
+
+pub use config::{Choice, Stepped, Todo};
+pub use demand::Demand;
+pub use examples::{
+    expressions_by_hand, graphs_by_hand, moment_by_hand, runs_by_hand, walks_by_hand,
+};
+pub use laws::{
+    final_answers_stay, only_moves_change, prefixes_are_runs, silent_edges_end,
+    silent_edges_run_out, steps_change_little,
+};
+pub use rows::{expression_rows, graph_rows, unrolling_rows};
