@@ -1,0 +1,9 @@
+pub mod Finds
+pub mod Fronts
+pub mod Hashes
+pub mod Heads
+pub mod Marks
+pub mod Numerals
+pub mod PlaceSteps
+pub mod Runs
+pub mod Slashes

@@ -1,0 +1,6 @@
+pub mod Cursors
+pub mod Found
+pub mod Numbers
+pub mod Pieces
+pub mod Places
+pub mod Tokens

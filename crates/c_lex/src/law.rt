@@ -1,0 +1,2 @@
+/// A text has at most one cut.
+pub fn one_cut() {}
