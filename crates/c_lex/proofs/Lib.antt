@@ -1,9 +1,10 @@
+pub mod Cut
 pub mod Finds
 pub mod Fronts
 pub mod Hashes
 pub mod Heads
 pub mod Marks
 pub mod Numerals
-pub mod PlaceSteps
+pub mod Outcomes
 pub mod Runs
 pub mod Slashes

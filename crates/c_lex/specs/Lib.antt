@@ -4,3 +4,4 @@ pub mod Numbers
 pub mod Pieces
 pub mod Places
 pub mod Tokens
+pub mod Utf8

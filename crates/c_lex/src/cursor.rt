@@ -39,7 +39,8 @@ impl Cursor {
         ensures stands { StandsIn text.now result }
     {
         let mut cursor = self;
-        for _i in self.at..self.at + count {
+        let end = self.at + count;
+        while cursor.at < end {
             cursor = cursor.past_byte(text);
         }
         cursor

@@ -1,5 +1,8 @@
-use gob_tree::{Memory, Place};
-use std::alloc::{AllocError, AllocFailed};
+ghost use Rattle.std.specs.Prelude.{◌≡◌};
+ghost use Rattle.c_lex.specs.declared.fault.LexFault.TheVariants.{Memory};
+
+use gob_tree::Place;
+use std::alloc::AllocFailed;
 use thiserror::Error;
 
 /// The first fault of a text that has no tokens.
@@ -30,19 +33,9 @@ pub enum LexFault {
     Memory,
 }
 
-impl From<Memory> for LexFault {
-    fn from(_memory: Memory) -> LexFault {
-        LexFault::Memory
-    }
-}
-
-impl From<AllocError> for LexFault {
-    fn from(_error: AllocError) -> LexFault {
-        LexFault::Memory
-    }
-}
-
 impl<T: Drop> From<AllocFailed<T>> for LexFault {
+    ghost from_gives = { λ _ fault. fault ≡ Memory };
+
     fn from(_error: AllocFailed<T>) -> LexFault {
         LexFault::Memory
     }
