@@ -8,3 +8,5 @@ pub mod Numerals
 pub mod Outcomes
 pub mod Runs
 pub mod Slashes
+pub mod Steps
+pub mod Utf8Ends
