@@ -28,9 +28,14 @@ pub breaks_on : (text : List ℕ) (cursor : Cursor) (found : Found) (fault : Lex
 breaks_on text cursor found fault stands finds is =
     let rest : List ℕ = drop cursor.at text in
     let p : List ℕ = take found.length rest in
-    inl (found.shape, p, drop found.length rest, take-append-drop found.length rest,
-        subst (λ leads. IsLongest leads found.shape p (drop found.length rest)) stands.leads finds.longest,
-        subst (λ place. fault_of found.shape place ≡ Some fault) stands.place is)
+    inl (
+      found.shape,
+      p,
+      drop found.length rest,
+      take-append-drop found.length rest,
+      subst (λ leads. IsLongest leads found.shape p (drop found.length rest)) stands.leads finds.longest,
+      subst (λ place. fault_of found.shape place ≡ Some fault) stands.place is,
+    )
 
 -- what was found makes a token or none
 abbrev pub made : Cursor → Found → Option TokenKind → List Token

@@ -58,12 +58,13 @@ no_seconds x y lead none s = none (least, most)
   where
     least : second_byte_min x ≤ y
     least = elim (least_second x) [
-      inl e ↦ let h = (s.three (omega arith) (omega arith)).0 in omega arith
+      | inl e ↦ let h = (s.three (omega arith) (omega arith)).0 in omega arith
       | inr o ↦ elim o [ inl e ↦ let h = (s.four (omega arith)).0 in omega arith | inr e ↦ omega arith ]
     ]
+
     most : y ≤ second_byte_max x
     most = elim (most_second x) [
-      inl e ↦ elim (s.three (omega arith) (omega arith)).1 [ inl low ↦ omega arith | inr high ↦ omega arith ]
+      | inl e ↦ elim (s.three (omega arith) (omega arith)).1 [ inl low ↦ omega arith | inr high ↦ omega arith ]
       | inr o ↦ elim o [ inl e ↦ let h = (s.four (omega arith)).1 in omega arith | inr e ↦ omega arith ]
     ]
 
@@ -72,10 +73,10 @@ begins_three : (x y z : ℕ) → IsLead x → 224 ≤ x → IsSecond x y → Fol
 begins_three x y z lead wide second third =
     let s = seconds x y lead second in
     elim (cases_lt x 240) [
-      inl low ↦
-        let ranges = s.three wide low in
-        let lo : 2048 ≤ (x - 224) * 4096 + (y - 128) * 64 + (z - 128) = omega arith in
-        ([], of_three (x ∷ y ∷ z ∷ []) 0 (omega arith) (wide, low) s.follows third lo (elim ranges.1 [ inl a ↦ inl (omega arith) | inr b ↦ inr (omega arith) ]))
+      | inl low ↦
+          let ranges = s.three wide low in
+          let lo : 2048 ≤ (x - 224) * 4096 + (y - 128) * 64 + (z - 128) = omega arith in
+          ([], of_three (x ∷ y ∷ z ∷ []) 0 (omega arith) (wide, low) s.follows third lo (elim ranges.1 [ inl a ↦ inl (omega arith) | inr b ↦ inr (omega arith) ]))
       | inr high ↦ (128 ∷ [], of_four (x ∷ y ∷ z ∷ 128 ∷ []) 0 (omega arith) high s.follows third (omega arith, omega arith) (s.four high))
     ]
 
@@ -83,7 +84,7 @@ begins_two : (x y : ℕ) → IsLead x → IsSecond x y → BeginsUtf8 (x ∷ y �
 begins_two x y lead second =
     let s = seconds x y lead second in
     elim (cases_lt x 224) [
-      inl low ↦ ([], of_two (x ∷ y ∷ []) 0 (omega arith) (lead.0, low) s.follows)
+      | inl low ↦ ([], of_two (x ∷ y ∷ []) 0 (omega arith) (lead.0, low) s.follows)
       | inr high ↦ let more = begins_three x y 128 lead high second (omega arith, omega arith) in (128 ∷ more.0, more.1)
     ]
 
@@ -141,8 +142,8 @@ record RestBreaks (rest : List ℕ) (n : ℕ) : Type 0 where
 stop_one : (x : ℕ) → 128 ≤ x → ¬ (IsLead x) → ¬ (BeginsUtf8 (x ∷ []))
 stop_one x wide none (more, u) =
     no_utf8 (x ∷ more) (omega arith) (λ r.
-        let second = r.second wide in
-        none (second.0, elim (cases_lt x 240) [ inl low ↦ omega arith | inr high ↦ let range = (r.fourth high).2 in omega arith ])) u
+    let second = r.second wide in
+    none (second.0, elim (cases_lt x 240) [ inl low ↦ omega arith | inr high ↦ let range = (r.fourth high).2 in omega arith ])) u
 
 stop_two : (x y : ℕ) → IsLead x → ¬ (IsSecond x y) → ¬ (BeginsUtf8 (x ∷ y ∷ []))
 stop_two x y lead none (more, u) =
@@ -164,12 +165,12 @@ not_two x y xs none lead second =
 not_three : (x y z : ℕ) (xs : List ℕ) → NoFront (x ∷ y ∷ z ∷ xs) → IsLead x → IsSecond x y → Follows z → 240 ≤ x
 not_three x y z xs none lead second third =
     elim (cases_lt x 240) [
-      inl lt ↦
-        let s = seconds x y lead second in
-        let wide = not_two x y (z ∷ xs) none lead second in
-        let ranges = s.three wide lt in
-        let lo : 2048 ≤ (x - 224) * 4096 + (y - 128) * 64 + (z - 128) = omega arith in
-        absurd (none 3 (omega arith) (omega arith) (of_three (x ∷ y ∷ z ∷ xs) 0 (omega arith) (wide, lt) s.follows third lo (elim ranges.1 [ inl a ↦ inl (omega arith) | inr b ↦ inr (omega arith) ])))
+      | inl lt ↦
+          let s = seconds x y lead second in
+          let wide = not_two x y (z ∷ xs) none lead second in
+          let ranges = s.three wide lt in
+          let lo : 2048 ≤ (x - 224) * 4096 + (y - 128) * 64 + (z - 128) = omega arith in
+          absurd (none 3 (omega arith) (omega arith) (of_three (x ∷ y ∷ z ∷ xs) 0 (omega arith) (wide, lt) s.follows third lo (elim ranges.1 [ inl a ↦ inl (omega arith) | inr b ↦ inr (omega arith) ])))
       | inr ge ↦ ge
     ]
 
@@ -265,9 +266,11 @@ breaks_at text v broken valid =
     record {
       broken = broken;
       within = omega (arith, valid.short, r.within);
-      begins =
-          (r.begins.0, subst IsUtf8 (sym (ap (λ (t : List ℕ). t ++ r.begins.0) (take-add v n text) ∙ append_assoc (take v text) (take n rest) r.begins.0))
-          (IsUtf8-append (take v text) (take n rest ++ r.begins.0) valid.front r.begins.1));
+      begins = (
+        r.begins.0,
+        subst IsUtf8 (sym (ap (λ (t : List ℕ). t ++ r.begins.0) (take-add v n text) ∙ append_assoc (take v text) (take n rest) r.begins.0))
+            (IsUtf8-append (take v text) (take n rest ++ r.begins.0) valid.front r.begins.1),
+      );
       stops = λ lt b.
           let further : v + n + 1 ≡ v + (n + 1) = omega arith in
           let split : take (v + n + 1) text ≡ take v text ++ take (n + 1) rest = ap (λ m. take m text) further ∙ take-add v (n + 1) text in

@@ -26,15 +26,15 @@ loop-cursor-preserved c =
     let found = c.in_ok-found.found in
     let items : List Token = c.loop-cursor.tokens.items in
     let step : IsCutTo c.args.text.now (cursor.at + found.length) (items ++ made cursor found c.kind_of.result) =
-        subst (λ k. IsCutTo c.args.text.now (cursor.at + found.length) (items ++ made cursor found k)) (sym c.kind_of.ensures)
-        (cut_steps c.args.text.now cursor found items c.loop-cursor.invariant.stands c.loop-cursor.invariant.cut c.in_ok-found.ensures.found c.in_ok-found.ensures.sound) in
+    subst (λ k. IsCutTo c.args.text.now (cursor.at + found.length) (items ++ made cursor found k)) (sym c.kind_of.ensures)
+    (cut_steps c.args.text.now cursor found items c.loop-cursor.invariant.stands c.loop-cursor.invariant.cut c.in_ok-found.ensures.found c.in_ok-found.ensures.sound) in
     let kept : c.match-kind_of.tokens.items ≡ items ++ made cursor found c.kind_of.result =
-        elim c.match-kind_of.branch [
-          in-Some+in_ok-push w ↦
-            let new : made cursor found c.kind_of.result ≡ w.token.result ∷ [] = ap (made cursor found) w.in-Some.is ∙ (λ i. sym w.token.ensures i ∷ []) in
-            ap (λ v. v.items) w.tokens-is ∙ (w.in_ok-push.ensures.items ∙ ap (λ (ts : List Token). items ++ ts) (sym new))
-          | in_default w ↦ ap (λ v. v.items) w.tokens-is ∙ (sym (append-nil items) ∙ ap (λ k. items ++ made cursor found k) (sym w.in_default.is))
-        ] in
+    elim c.match-kind_of.branch [
+      | in-Some+in_ok-push w ↦
+          let new : made cursor found c.kind_of.result ≡ w.token.result ∷ [] = ap (made cursor found) w.in-Some.is ∙ (λ i. sym w.token.ensures i ∷ []) in
+          ap (λ v. v.items) w.tokens-is ∙ (w.in_ok-push.ensures.items ∙ ap (λ (ts : List Token). items ++ ts) (sym new))
+      | in_default w ↦ ap (λ v. v.items) w.tokens-is ∙ (sym (append-nil items) ∙ ap (λ k. items ++ made cursor found k) (sym w.in_default.is))
+    ] in
     record {
       stands = c.past-cursor.ensures.stands;
       cut = subst (λ n. IsCutTo c.args.text.now n c.match-kind_of.tokens.items) (sym c.past-cursor.ensures.after) (subst (λ (ts : List Token). IsCutTo c.args.text.now (cursor.at + found.length) ts) (sym kept) step);

@@ -8,5 +8,5 @@ use Rattle.c_lex.proofs.cutting.next_piece.Goals as goal
 pub returns-in-Unclosed-clause-fault : goal.returns-in-Unclosed-clause-fault
 returns-in-Unclosed-clause-fault c =
     let finds : FindsPiece c.args.cursor.leads (drop c.args.cursor.at c.args.text.now) c.in-Some.found =
-        subst (λ (rest : List ℕ). FindsPiece c.args.cursor.leads rest c.in-Some.found) (take_rest c.args.text.now c.args.cursor.at) c.in-Some.ensures.found in
+    subst (λ (rest : List ℕ). FindsPiece c.args.cursor.leads rest c.in-Some.found) (take_rest c.args.text.now c.args.cursor.at) c.in-Some.ensures.found in
     breaks_on c.args.text.now c.args.cursor c.in-Some.found _ c.requires.stands finds (ap (λ s. fault_of s c.args.cursor.place) c.in-Unclosed.is)
