@@ -1,19 +1,16 @@
 -- Cuts: one piece more, and that a text has one cut and one outcome.
-use Rattle.std.proofs.Common.{◌≡◌, ℕ, suc, Bool, ◌+◌, ◌≤◌, ◌<◌, ◌≢◌, List, [], ◌∷◌, ◌++◌, length, take, drop, refl, sym, ap, subst, ◌∙◌, arith, inl, inr, Option, Some, None, append_assoc}
-use Rattle.std.specs.Prelude.{◌⊎◌, option_to_list}
+use Rattle.std.proofs.Common.{◌≡◌, ℕ, Bool, ◌+◌, List, [], ◌∷◌, ◌++◌, length, take, drop, refl, sym, ap, subst, ◌∙◌, arith, inl, inr, None, append_assoc}
+use Rattle.std.specs.Prelude.{option_to_list}
 use Rattle.std.proofs.lemmas.List.{append-nil, length-append, append_cancel_left, take-append-drop, drop-drop}
 use Rattle.std.proofs.Math.Seq.{take-add}
-use Rattle.gob_tree.specs.declared.place.Place.{Place}
 use Rattle.c_lex.specs.declared.fault.LexFault.{LexFault}
-use Rattle.c_lex.specs.declared.fault.LexFault.TheVariants.{TooLong, NotText, BadCharacter, OpenComment, BadLiteral, Unsupported, Memory}
 use Rattle.c_lex.specs.declared.piece.Found.{Found}
 use Rattle.c_lex.specs.declared.piece.Shape.{Shape}
-use Rattle.c_lex.specs.declared.piece.Shape.TheVariants.{Blank, LineComment, BlockComment, Include, Kept, Unclosed, Directive, BadNumber}
 use Rattle.c_lex.specs.declared.token.Token.{Token}
 use Rattle.c_lex.specs.Found.{FindsPiece}
-use Rattle.c_lex.specs.Pieces.{IsPiece, IsLongest, NoPiece, Begins}
+use Rattle.c_lex.specs.Pieces.{IsLongest}
 use Rattle.c_lex.specs.Places.{place_after, leads_line}
-use Rattle.c_lex.specs.Tokens.{Piece, texts, fault_of, AreLongest, Cuts, token_of, tokens_of, IsReadable, AreTokens, Breaks, CutBreaks, IsFirstFault}
+use Rattle.c_lex.specs.Tokens.{Piece, texts, fault_of, AreLongest, Cuts, token_of, tokens_of, AreTokens, Breaks}
 use Rattle.c_lex.proofs.Heads.{length-piece}
 
 texts-push : (ps : List Piece) (p : Piece) (rest : List ℕ) → texts (ps ++ p ∷ []) ++ rest ≡ texts ps ++ (p.text ++ rest)

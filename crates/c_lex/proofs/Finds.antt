@@ -1,8 +1,8 @@
 -- What the scan of a place finds, from what it reads there.
-use Rattle.std.proofs.Common.{◌≡◌, ℕ, suc, ◌+◌, ◌-◌, ◌^◌, ◌≤◌, ◌<◌, ◌≢◌, Bool, true, false, not, List, [], ◌∷◌, ◌++◌, length, take, drop, get_or, refl, sym, ap, subst, ◌∙◌, arith, inl, inr, append_assoc, codes, ℤ, pos, Option, Some, None}
-use Rattle.std.specs.Prelude.{IsTrue, ◌⊎◌, IfSome, IfNone, SomeIff}
+use Rattle.std.proofs.Common.{◌≡◌, ℕ, suc, ◌+◌, ◌-◌, ◌^◌, ◌≤◌, ◌<◌, ◌≢◌, Bool, true, false, List, [], ◌∷◌, ◌++◌, length, take, drop, get_or, refl, sym, ap, subst, ◌∙◌, arith, inl, inr, append_assoc, codes, ℤ, pos, Option, Some, None}
+use Rattle.std.specs.Prelude.{IsTrue, IfSome, IfNone, SomeIff}
 use Rattle.std.specs.Char.{is_ascii_digit}
-use Rattle.std.specs.List.{prefix_len, list_all, starts_with}
+use Rattle.std.specs.List.{prefix_len}
 use Rattle.std.specs.Str.{bytes_eq, all_ascii_digits}
 use Rattle.std.specs.Str.Parse.{digits_value}
 use Rattle.std.proofs.lemmas.Bool.{cond-true, or_left, or_right, both_ways}
@@ -13,11 +13,10 @@ use Rattle.std.proofs.Math.Seq.{drop-cons}
 use Rattle.c_lex.specs.declared.piece.Shape.{Shape}
 use Rattle.c_lex.specs.declared.piece.Shape.TheVariants.{Blank, LineComment, BlockComment, Include, Kept, Unclosed, Directive, BadNumber}
 use Rattle.c_lex.specs.declared.piece.Found.{Found}
-use Rattle.c_lex.specs.declared.token.TokenKind.{TokenKind}
 use Rattle.c_lex.specs.declared.token.TokenKind.TheVariants.{Word, Number, Mark}
 use Rattle.c_lex.specs.Found.{FindsPiece, IsLongestMark, NoMark}
 use Rattle.c_lex.specs.Numbers.{without_suffix_of}
-use Rattle.c_lex.specs.Pieces.{IsPiece, IsLongest, NoPiece, Begins, Holds, Only, Spells, is_line_end, is_blank, is_word_head, is_word_byte, is_mark}
+use Rattle.c_lex.specs.Pieces.{IsPiece, NoPiece, Begins, Holds, Spells, is_blank, is_word_head, is_word_byte, is_mark}
 use Rattle.c_lex.proofs.Heads.{Heads, head_at, length-piece}
 use Rattle.c_lex.proofs.Hashes.{include_longest, directive_longest, no_hash}
 use Rattle.c_lex.proofs.Numerals.{spelled_digits, no_number_of_digits}

@@ -3,6 +3,7 @@ pub mod Finds
 pub mod Fronts
 pub mod Hashes
 pub mod Heads
+pub mod Inside
 pub mod Marks
 pub mod Numerals
 pub mod Outcomes

@@ -1,8 +1,8 @@
 -- A text has one outcome: its tokens, or its first fault.
-use Rattle.std.proofs.Common.{◌≡◌, ℕ, suc, Bool, ◌+◌, ◌≤◌, ◌<◌, ◌≢◌, List, [], ◌∷◌, ◌++◌, length, take, drop, refl, sym, ap, subst, ◌∙◌, arith, inl, inr, Option, Some, None, append_assoc}
-use Rattle.std.specs.Prelude.{◌⊎◌, IsUtf8}
+use Rattle.std.proofs.Common.{◌≡◌, ℕ, ◌+◌, ◌≤◌, ◌<◌, ◌≢◌, List, [], ◌++◌, length, take, drop, refl, sym, ap, subst, ◌∙◌, arith, inl, inr, Some, append_assoc}
+use Rattle.std.specs.Prelude.{IsUtf8}
 use Rattle.std.proofs.lemmas.Bool.{cases_order}
-use Rattle.std.proofs.lemmas.List.{append-nil, length-append, take-append-drop, take-take, take_all}
+use Rattle.std.proofs.lemmas.List.{length-append, take-append-drop, take-take}
 use Rattle.gob_tree.specs.declared.place.Place.{Place}
 use Rattle.c_lex.specs.declared.TheConstants.{TEXT_LIMIT}
 use Rattle.c_lex.specs.declared.fault.LexFault.{LexFault}
@@ -10,10 +10,9 @@ use Rattle.c_lex.specs.declared.fault.LexFault.TheVariants.{TooLong, NotText, Ba
 use Rattle.c_lex.specs.declared.piece.Shape.{Shape}
 use Rattle.c_lex.specs.declared.piece.Shape.TheVariants.{Blank, LineComment, BlockComment, Include, Kept, Unclosed, Directive, BadNumber}
 use Rattle.c_lex.specs.declared.token.Token.{Token}
-use Rattle.c_lex.specs.Pieces.{IsPiece, IsLongest, NoPiece, Begins}
 use Rattle.c_lex.specs.Places.{place_after, leads_line, BeginsUtf8, BreaksUtf8}
-use Rattle.c_lex.specs.Tokens.{Piece, texts, fault_of, AreLongest, Cuts, token_of, tokens_of, IsReadable, AreTokens, Breaks, CutBreaks, IsFirstFault}
-use Rattle.c_lex.proofs.Cut.{same_next, same_cut, Stops, stops_at_end, stops_at_fault}
+use Rattle.c_lex.specs.Tokens.{Piece, texts, fault_of, AreTokens, Breaks, CutBreaks, IsFirstFault}
+use Rattle.c_lex.proofs.Cut.{same_next, same_cut, stops_at_end, stops_at_fault}
 use Rattle.c_lex.proofs.Heads.{length-piece}
 
 -- the faults of a cut

@@ -1,22 +1,21 @@
 -- The longest blanks, words and numbers.
-use Rattle.std.proofs.Common.{◌≡◌, ℕ, suc, ◌+◌, ◌≤◌, ◌<◌, Bool, true, false, List, [], ◌∷◌, ◌++◌, length, take, drop, get_or, cond, refl, sym, ap, subst, ◌∙◌, arith, inl, inr, ℤ, pos, Option, Some, None}
-use Rattle.std.specs.Prelude.{IsTrue, ◌⊎◌, decimal, IfSome}
+use Rattle.std.proofs.Common.{◌≡◌, ℕ, ◌+◌, ◌≤◌, ◌<◌, Bool, true, List, [], ◌∷◌, ◌++◌, length, take, drop, refl, sym, ap, subst, ◌∙◌, arith, inl, inr, ℤ}
+use Rattle.std.specs.Prelude.{IsTrue, ◌⊎◌}
 use Rattle.std.specs.Char.{is_ascii_digit}
-use Rattle.std.specs.List.{list_all, list_any, prefix_len}
-use Rattle.std.proofs.lemmas.Bool.{and_parts, and_from, cases_eq, cond-true, or_left, or_right}
+use Rattle.std.specs.List.{list_all, prefix_len}
+use Rattle.std.proofs.lemmas.Bool.{and_from, cases_eq, cond-true, or_left, or_right}
 use Rattle.std.proofs.lemmas.Bool.Decides.{nat_tests}
 use Rattle.std.proofs.lemmas.List.{take-append-drop, take_at, drop_at, length-append}
 use Rattle.std.proofs.lemmas.List.Folds.{length-prefix_len}
 use Rattle.c_lex.specs.declared.piece.Shape.{Shape}
 use Rattle.c_lex.specs.declared.piece.Shape.TheVariants.{Blank, LineComment, BlockComment, Include, Kept, Unclosed, Directive, BadNumber}
 use Rattle.c_lex.specs.declared.piece.Found.{Found}
-use Rattle.c_lex.specs.declared.token.TokenKind.{TokenKind}
 use Rattle.c_lex.specs.declared.token.TokenKind.TheVariants.{Word, Number, Mark}
 use Rattle.c_lex.specs.Found.{FindsPiece}
-use Rattle.c_lex.specs.Pieces.{IsPiece, IsLongest, Begins, Only, Spells, IsDigitRun, IsWord, is_blank, is_word_head, is_word_byte, is_mark}
-use Rattle.c_lex.proofs.Fronts.{length-front-le, Only-take, same_front, Begins-take}
+use Rattle.c_lex.specs.Pieces.{IsPiece, IsLongest, Begins, Only, Spells, IsWord, is_blank, is_word_head, is_word_byte, is_mark}
+use Rattle.c_lex.proofs.Fronts.{length-front-le, Only-take, same_front}
 use Rattle.c_lex.proofs.Numerals.{Only-run, one_number}
-use Rattle.c_lex.proofs.Heads.{Heads, head_at, head_of}
+use Rattle.c_lex.proofs.Heads.{Heads, head_at}
 
 -- another piece is the same one, or shorter
 abbrev pub Loses : Shape → List ℕ → Shape → List ℕ → Type 0

@@ -1,20 +1,19 @@
 -- The longest comments, and the marks that begin with a slash.
-use Rattle.std.proofs.Common.{◌≡◌, ℕ, suc, ◌+◌, ◌-◌, ◌≤◌, ◌<◌, ◌≢◌, Bool, true, false, not, List, [], ◌∷◌, ◌++◌, length, take, drop, get_or, refl, sym, ap, subst, ◌∙◌, arith, inl, inr, append_assoc, length-append, codes}
-use Rattle.std.specs.Prelude.{IsTrue, ◌⊎◌}
-use Rattle.std.specs.List.{prefix_len, list_all}
+use Rattle.std.proofs.Common.{◌≡◌, ℕ, ◌≤◌, ◌≢◌, Bool, true, not, List, [], ◌∷◌, ◌++◌, length, take, drop, refl, sym, ap, subst, ◌∙◌, arith, inl, inr, append_assoc, length-append, codes}
+use Rattle.std.specs.Prelude.{IsTrue}
+use Rattle.std.specs.List.{prefix_len}
 use Rattle.std.proofs.lemmas.Bool.{cases_lt, false≢true, eqb-false}
 use Rattle.std.proofs.lemmas.Bool.Decides.{nat_tests}
 use Rattle.std.proofs.lemmas.List.{take-append-drop, append-nil}
 use Rattle.std.proofs.lemmas.List.Folds.{length-prefix_len}
 use Rattle.c_lex.specs.declared.piece.Shape.{Shape}
 use Rattle.c_lex.specs.declared.piece.Shape.TheVariants.{Blank, LineComment, BlockComment, Include, Kept, Unclosed, Directive, BadNumber}
-use Rattle.c_lex.specs.declared.token.TokenKind.{TokenKind}
 use Rattle.c_lex.specs.declared.token.TokenKind.TheVariants.{Word, Number, Mark}
 use Rattle.c_lex.specs.Pieces.{IsPiece, IsLongest, Begins, Holds, Only, is_line_end, is_mark}
 use Rattle.c_lex.proofs.Fronts.{length-front-le, Only-take}
 use Rattle.c_lex.proofs.Heads.{Heads, head_at}
 use Rattle.c_lex.proofs.Marks.{mark_front, mark_fronts}
-use Rattle.c_lex.proofs.Runs.{Loses, no_longer}
+use Rattle.c_lex.proofs.Runs.{no_longer}
 
 abbrev pub no_end : ℕ → Bool
 no_end b = not (is_line_end b)

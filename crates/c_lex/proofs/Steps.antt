@@ -1,12 +1,10 @@
 -- One step of the cut, from where the cursor stands.
-use Rattle.std.proofs.Common.{◌≡◌, ℕ, suc, Bool, ◌+◌, ◌≤◌, ◌<◌, List, [], ◌∷◌, ◌++◌, length, take, drop, refl, sym, ap, subst, ◌∙◌, arith, inl, inr, Option, Some, None}
-use Rattle.std.specs.Prelude.{◌⊎◌, option_to_list, option_map}
-use Rattle.std.proofs.lemmas.List.{length-take, length-drop, length-take-le, take-append-drop}
-use Rattle.gob_tree.specs.declared.place.Place.{Place}
+use Rattle.std.proofs.Common.{◌≡◌, ℕ, Bool, ◌+◌, ◌≤◌, ◌<◌, List, ◌++◌, length, take, drop, sym, subst, arith, inl, Option, Some, None}
+use Rattle.std.specs.Prelude.{option_to_list, option_map}
+use Rattle.std.proofs.lemmas.List.{length-take, length-take-le, take-append-drop}
 use Rattle.c_lex.specs.declared.cursor.Cursor.{Cursor}
 use Rattle.c_lex.specs.declared.fault.LexFault.{LexFault}
 use Rattle.c_lex.specs.declared.piece.Found.{Found}
-use Rattle.c_lex.specs.declared.piece.Shape.{Shape}
 use Rattle.c_lex.specs.declared.token.Token.{Token}
 use Rattle.c_lex.specs.declared.token.TokenKind.{TokenKind}
 use Rattle.c_lex.specs.Cursors.{StandsIn}

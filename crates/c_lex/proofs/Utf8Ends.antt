@@ -1,15 +1,15 @@
 -- Where bytes can go on to be UTF-8, and where they can't.
-use Rattle.std.proofs.Common.{◌≡◌, ℕ, suc, ◌+◌, ◌-◌, ◌*◌, ◌≤◌, ◌<◌, ◌≢◌, Bool, true, false, cond, List, [], ◌∷◌, ◌++◌, length, take, drop, get_or, refl, sym, ap, subst, ◌∙◌, arith, inl, inr, Option, Some, None, append_assoc}
-use Rattle.std.specs.Prelude.{◌⊎◌, IsUtf8, nat_lt, nat_le, ◌==◌}
+use Rattle.std.proofs.Common.{◌≡◌, ℕ, ◌+◌, ◌-◌, ◌*◌, ◌≤◌, ◌<◌, ◌≢◌, Bool, true, false, List, [], ◌∷◌, ◌++◌, length, take, drop, get_or, refl, sym, ap, subst, ◌∙◌, arith, inl, inr, append_assoc}
+use Rattle.std.specs.Prelude.{◌⊎◌, IsUtf8, nat_le}
 use Rattle.std.specs.Int.{is_in_range}
 use Rattle.std.specs.Str.{StartsWithNoChar, IsValidUpTo}
-use Rattle.std.specs.Str.Lossy.{utf8_error_len, error_len_of_some, error_len_after_one, error_len_after_two, second_byte_min, second_byte_max}
+use Rattle.std.specs.Str.Lossy.{utf8_error_len, second_byte_min, second_byte_max}
 use Rattle.std.proofs.str.Faults.{Ranged, no_char}
 use Rattle.std.proofs.str.Laws.{Follows, both}
 use Rattle.std.proofs.str.Valid.{of_one, of_two, of_three, of_four}
-use Rattle.std.proofs.lemmas.Bool.{cond-true, cond-false, and_parts, and_cases, leb-true, leb-false, eqb-true, eqb-false, cases_lt}
+use Rattle.std.proofs.lemmas.Bool.{and_parts, leb-true, cases_lt}
 use Rattle.std.proofs.lemmas.Bool.Decides.{nat_tests}
-use Rattle.std.proofs.lemmas.List.{append-nil, length-append, take-append-drop, take_all, length-drop, take_at, drop_at}
+use Rattle.std.proofs.lemmas.List.{length-append, length-drop, take_at, drop_at}
 use Rattle.std.proofs.lemmas.Str.{IsUtf8-append, IsUtf8-nil, IsUtf8-drop, IsCharBoundary-from_take}
 use Rattle.std.proofs.Math.Seq.{take-add}
 use Rattle.c_lex.specs.Places.{BeginsUtf8, BreaksUtf8}

@@ -1,5 +1,5 @@
 -- The places of a text: lines, and bytes in a line, both counted from 1.
-use Rattle.std.specs.Prelude.{◌≡◌, ℕ, suc, ◌+◌, ◌<◌, ◌≤◌, Bool, List, ◌++◌, length, take, count_by, IsUtf8}
+use Rattle.std.specs.Prelude.{ℕ, ◌+◌, ◌<◌, ◌≤◌, Bool, List, ◌++◌, length, take, count_by, IsUtf8}
 use Rattle.std.specs.List.{list_all, after_last}
 use Rattle.gob_tree.specs.declared.place.Place.{Place}
 use Rattle.c_lex.specs.Pieces.{is_line_end, is_space}

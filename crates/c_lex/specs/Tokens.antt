@@ -1,5 +1,5 @@
 -- The tokens of a text: its one longest cut, or its first fault.
-use Rattle.std.specs.Prelude.{◌≡◌, ◌≢◌, ◌+◌, ◌<◌, ◌≤◌, ◌⊎◌, ℕ, List, [], ◌++◌, ◌∷◌, length, take, flat_map, option_to_list, option_map, Option, Some, None, IsUtf8}
+use Rattle.std.specs.Prelude.{◌≡◌, ◌≢◌, ◌+◌, ◌<◌, ◌≤◌, ◌⊎◌, ℕ, List, [], ◌++◌, ◌∷◌, length, take, slice_range, flat_map, option_to_list, option_map, Option, Some, None, IsUtf8}
 use Rattle.gob_tree.specs.declared.place.Place.{Place}
 use Rattle.c_lex.specs.declared.TheConstants.{TEXT_LIMIT}
 use Rattle.c_lex.specs.declared.fault.LexFault.{LexFault}
@@ -8,7 +8,7 @@ use Rattle.c_lex.specs.declared.piece.Shape.{Shape}
 use Rattle.c_lex.specs.declared.piece.Shape.TheVariants.{Blank, LineComment, BlockComment, Include, Kept, Unclosed, Directive, BadNumber}
 use Rattle.c_lex.specs.declared.token.Token.{Token}
 use Rattle.c_lex.specs.declared.token.TokenKind.{TokenKind}
-use Rattle.c_lex.specs.Pieces.{IsLongest, NoPiece}
+use Rattle.c_lex.specs.Pieces.{IsLongest, IsToken, NoPiece}
 use Rattle.c_lex.specs.Places.{place_after, leads_line, BreaksUtf8}
 
 -- a piece of a cut
@@ -75,6 +75,13 @@ pub record AreTokens (text : List ℕ) (tokens : List Token) : Type 0 where
   pub pieces : List Piece
   pub cut : Cuts text pieces []
   pub kept : tokens ≡ tokens_of [] pieces
+
+-- the token is a part of the text, of its kind, and tells the place of its first byte
+pub record IsInText (text : List ℕ) (token : Token) : Type 0 where
+  pub some : token.start < token.end
+  pub within : token.end ≤ length text
+  pub kind : IsToken token.kind (slice_range text token.start token.end)
+  pub place : token.place ≡ place_after (take token.start text)
 
 -- after these bytes the longest piece is this fault, or no piece begins what is left
 abbrev pub Breaks : List ℕ → List ℕ → LexFault → Type 0

@@ -1,5 +1,6 @@
 ghost use Rattle.std.specs.Prelude.{◌≡◌, ◌+◌, ◌<◌, ◌≤◌, ℕ, List, length};
 ghost use Rattle.c_lex.specs.Pieces.{is_space};
+ghost use Rattle.c_lex.specs.Places.{place_after};
 
 use crate::TEXT_LIMIT;
 use gob_tree::Place;
@@ -75,6 +76,14 @@ impl Cursor {
             leads: self.leads && is_space(byte),
         }
     }
+}
+
+/// The place after the last byte of a text of at most `TEXT_LIMIT` bytes.
+pub fn end_place(text: &[u8]) -> Place
+    requires { length text.now ≤ TEXT_LIMIT }
+    ensures { result ≡ place_after text.now }
+{
+    Cursor::start().past(text, text.len()).place
 }
 
 /// Whether the byte is a blank or a tab.

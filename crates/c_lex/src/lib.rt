@@ -7,9 +7,12 @@ mod fault;
 mod law;
 mod number;
 mod piece;
+#[cfg(test)]
+mod tests;
 mod token;
 mod utf8;
 
+pub use cursor::end_place;
 pub use cutting::lex;
 pub use fault::LexFault;
 pub use law::one_cut;

@@ -1,4 +1,4 @@
-ghost use Rattle.std.specs.Prelude.{◌≡◌, ◌<◌, ◌^◌, IfSome, IfNone, IsTrue, SomeIff, ℤ, pos};
+ghost use Rattle.std.specs.Prelude.{◌≡◌, ◌<◌, ◌^◌, ◌↔◌, length, slice_index, IfSome, IfNone, IsTrue, SomeIff, ℤ, pos};
 ghost use Rattle.std.specs.Str.{all_ascii_digits};
 ghost use Rattle.std.specs.Str.Parse.{digits_value};
 ghost use Rattle.c_lex.specs.Numbers.{without_suffix_of};
@@ -16,10 +16,17 @@ pub fn number_of(run: &[u8]) -> Option<i64>
     if digits.is_empty() {
         return None;
     }
-    if digits[0] == b'0' && digits.len() != 1 {
+    if has_leading_zero(digits) {
         return None;
     }
     value_of(digits)
+}
+
+/// Whether a zero stands before other digits.
+fn has_leading_zero(digits: &[u8]) -> bool
+    ensures { IsTrue result ↔ ((1 < length digits.now) × (slice_index digits.now 0 ≡ 48)) }
+{
+    1 < digits.len() && digits[0] == b'0'
 }
 
 /// The run without the suffix that it may end with.

@@ -1,8 +1,7 @@
-use Rattle.std.proofs.Common.{◌≡◌, ℕ, ◌+◌, [], ◌∷◌, ◌++◌, List, sym, ◌∙◌, ap, subst, arith, Some, None}
+use Rattle.std.proofs.Common.{◌≡◌, ◌+◌, [], ◌∷◌, ◌++◌, List, sym, ◌∙◌, ap, subst, arith}
 use Rattle.std.proofs.lemmas.List.{append-nil}
 use Rattle.std.proofs.lemmas.Result.{err_from_is_err_and}
 use Rattle.c_lex.specs.declared.token.Token.{Token}
-use Rattle.c_lex.specs.Tokens.{kind_of}
 use Rattle.c_lex.proofs.Cut.{IsCutTo}
 use Rattle.c_lex.proofs.Outcomes.{fault_from_cut}
 use Rattle.c_lex.proofs.Steps.{found_some, made, cut_steps, cut_breaks}

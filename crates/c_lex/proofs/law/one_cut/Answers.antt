@@ -2,6 +2,7 @@ use Rattle.std.proofs.Common.{sym, ◌∙◌}
 use Rattle.std.proofs.lemmas.List.{append-nil}
 use Rattle.c_lex.specs.Tokens.{texts}
 use Rattle.c_lex.proofs.Cut.{one_whole_cut, one_list}
+use Rattle.c_lex.proofs.Inside.{tokens_inside, no_more_tokens}
 use Rattle.c_lex.proofs.Outcomes.{one_fault, tokens_or_fault}
 use Rattle.c_lex.proofs.law.one_cut.Goals as goal
 
@@ -12,4 +13,6 @@ returns c = record {
   tokens = one_list;
   fault = one_fault;
   either = tokens_or_fault;
+  inside = tokens_inside;
+  count = no_more_tokens;
 }

@@ -1,4 +1,4 @@
-use Rattle.std.proofs.Common.{◌<◌, ◌≤◌, arith, refl}
+use Rattle.std.proofs.Common.{arith, refl}
 use Rattle.c_lex.proofs.Finds.{finds_block, finds_unclosed}
 use Rattle.c_lex.proofs.piece.comment_at.Goals as goal
 

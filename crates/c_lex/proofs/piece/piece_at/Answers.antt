@@ -1,4 +1,4 @@
-use Rattle.std.proofs.Common.{◌≡◌, ◌<◌, length, get_or, false, sym, ◌∙◌, refl, subst, arith}
+use Rattle.std.proofs.Common.{◌≡◌, ◌<◌, length, sym, ◌∙◌, refl, subst, arith}
 use Rattle.std.specs.Prelude.{IfNone}
 use Rattle.c_lex.specs.Pieces.{NoPiece}
 use Rattle.std.proofs.lemmas.Bool.Decides.{nat_tests}

@@ -1,4 +1,4 @@
-use Rattle.std.proofs.Common.{sym, ◌∙◌, refl, ◌≢◌, arith, get_or}
+use Rattle.std.proofs.Common.{sym, ◌∙◌, refl}
 use Rattle.c_lex.proofs.Finds.{finds_line, finds_divides, finds_divide}
 use Rattle.c_lex.proofs.piece.slash_at.Goals as goal
 
