@@ -1,0 +1,13 @@
+pub mod Cut
+pub mod Finds
+pub mod Fronts
+pub mod Hashes
+pub mod Heads
+pub mod Inside
+pub mod Marks
+pub mod Numerals
+pub mod Outcomes
+pub mod Runs
+pub mod Slashes
+pub mod Steps
+pub mod Utf8Ends

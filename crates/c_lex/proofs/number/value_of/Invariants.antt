@@ -1,0 +1,11 @@
+use Rattle.std.proofs.Common.{◌≡◌, take, true}
+use Rattle.std.specs.Str.{all_ascii_digits}
+use Rattle.std.specs.Str.Parse.{digits_value}
+use Rattle.c_lex.proofs.number.value_of.Given as goal
+
+-- the value is that of the digits so far
+abbrev pub invariant-loop-digit : goal.invariant-loop-digit
+invariant-loop-digit l = record {
+  value : l.value ≡ digits_value 10 (take l.digit-index l.digits);
+  digits : all_ascii_digits (take l.digit-index l.digits) ≡ true;
+}
