@@ -177,7 +177,6 @@ fn is_blank_piece(piece: &[u8]) -> bool
     }
 }
 
-#[tactic(auto, using(crate::proofs::LoneLists::front_step))]
 /// The tokens of a text. Only LF ends a line.
 pub(crate) fn tokens_of(alloc: Global, text: &[u8]) -> Result<Seq<Token>, LoneFault>
     requires { length text.now ≤ 65536 }
