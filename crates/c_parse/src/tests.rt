@@ -82,6 +82,26 @@ fn two_declarations(rt: HostRuntime) -> Result<(), Fail> {
     let program = lone_main(rt.alloc(), text)
         .ok()
         .ok_or("the text is of the form")?;
+    let places = [
+        Place { line: 1, column: 5 },
+        Place {
+            line: 1,
+            column: 54,
+        },
+        Place {
+            line: 1,
+            column: 18,
+        },
+        Place {
+            line: 1,
+            column: 29,
+        },
+        Place {
+            line: 1,
+            column: 44,
+        },
+    ];
+    assert!(rt; has_nodes(&program, &places));
     for main in program.funcs.as_slice() {
         assert_eq!(rt; main.slots.len(), 3);
         assert_eq!(rt; main.edges.len(), 4);
