@@ -37,13 +37,19 @@ fn a_statement_is_copied(rt: HostRuntime) -> Result<(), Fail> {
     };
     let copy = placed.copy(alloc)?;
     assert_eq!(rt; copy.place.column, 5);
-    let found = match copy.stmt {
-        Stmt::Assign(Target::Local(1), Expr::Binary(BinOp::Add, a, b)) => match (a.get(), b.get()) {
-            (Expr::Local(1), Expr::Number(1, Width::W32)) => true,
-            _ => false,
-        },
-        _ => false,
-    };
-    assert!(rt; found);
+    assert!(rt; matches!(&copy.stmt, Stmt::Assign(Target::Local(1), _)));
+    match &copy.stmt {
+        Stmt::Assign(_, sum) => assert!(rt; is_next(sum)),
+        _ => assert!(rt; false),
+    }
     Ok(())
+}
+
+fn is_next(sum: &Expr) -> bool {
+    match sum {
+        Expr::Binary(BinOp::Add, a, b) => {
+            matches!(a.get(), Expr::Local(1)) && matches!(b.get(), Expr::Number(1, Width::W32))
+        }
+        _ => false,
+    }
 }

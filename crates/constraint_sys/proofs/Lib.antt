@@ -1,0 +1,11 @@
+pub mod Copied
+pub mod Entries
+pub mod Locality
+pub mod Ordered
+pub mod Quiet
+pub mod Replaying
+pub mod Rising
+pub mod Rooms
+pub mod Shaping
+pub mod SoundStart
+pub mod SoundTurns

@@ -1,0 +1,107 @@
+-- Lists without regard to order, and lists that ascend, as their elements come and go.
+use Rattle.std.proofs.Common.{◌≡◌, ◌≢◌, ℕ, zero, suc, ◌+◌, ◌-◌, ◌<◌, ◌≤◌, ◌⊎◌, ◌↔◌, inl, inr, Bool, true, false, cond, not, List, [], ◌∷◌, length, drop, drop-cons, add-one, get_or, refl, sym, ap, subst, ◌∙◌, arith, true≢false}
+use Rattle.std.specs.Prelude.{Contains, filter, insert, IsSorted}
+use Rattle.std.specs.Ordering.{is_lt, ordering_reverse}
+use Rattle.std.specs.declared.cmp.Ordering.{Ordering}
+use Rattle.std.specs.declared.cmp.Ordering.TheVariants.{Less, Equal, Greater}
+use Rattle.std.specs.Cmp.{IsTotalOrder}
+use Rattle.std.specs.List.Sorted.{IsPartitionPoint}
+use Rattle.std.proofs.lemmas.Bool.{cases_eq, cases_lt}
+use Rattle.std.proofs.lemmas.List.Edits.{get_or-insert_below, get_or-insert_at, get_or-insert_above, length-insert}
+use Rattle.std.proofs.lemmas.List.Sorted.{IsPermutation-insert, IsPermutation-sym, Contains-permutation}
+
+module _ {X : Type 0} where
+  pub Contains-head : (x : X) (xs : List X) → Contains (x ∷ xs) x
+  Contains-head x xs = (0, omega arith, refl)
+
+  pub Contains-tail : (x y : X) (xs : List X) → Contains xs y → Contains (x ∷ xs) y
+  Contains-tail x y xs (k, within, is) = (suc k, omega arith, is)
+
+  pub Contains-cases : (x y : X) (xs : List X) → Contains (x ∷ xs) y → (y ≡ x) ⊎ Contains xs y
+  Contains-cases x y xs (zero, within, is) = inl (sym is)
+  Contains-cases x y xs (suc k, within, is) = inr (k, omega arith, is)
+
+  pub Contains-nil : (y : X) → Contains [] y → ⊥
+  Contains-nil y (k, within, is) = omega arith
+
+  pub Contains-filtered : (t : X → Bool) (xs : List X) (y : X) → Contains xs y → t y ≡ true → Contains (filter t xs) y
+  Contains-filtered t [] y one passes = absurd (Contains-nil y one)
+  Contains-filtered t (x ∷ xs) y one passes = elim (Contains-cases x y xs one) [
+    | inl same ↦ rw (ap t (sym same) ∙ passes) (subst (λ (z : X). Contains (x ∷ filter t xs) z) (sym same) (Contains-head x (filter t xs)))
+    | inr later ↦ by (t x) (Contains-filtered t xs y later passes)
+  ]
+    where
+      by : (b : Bool) → Contains (filter t xs) y → Contains (cond b (x ∷ filter t xs) (filter t xs)) y
+      by true rest = Contains-tail x y (filter t xs) rest
+      by false rest = rest
+
+  pub Contains-filter : (t : X → Bool) (xs : List X) (y : X) → Contains (filter t xs) y → Contains xs y × (t y ≡ true)
+  Contains-filter t [] y one = absurd (Contains-nil y one)
+  Contains-filter t (x ∷ xs) y one = by (t x) refl (λ later. Contains-filter t xs y later) one
+    where
+      by : (b : Bool) → t x ≡ b → (Contains (filter t xs) y → Contains xs y × (t y ≡ true)) → Contains (cond b (x ∷ filter t xs) (filter t xs)) y → Contains (x ∷ xs) y × (t y ≡ true)
+      by true passes rest one = elim (Contains-cases x y (filter t xs) one) [
+        | inl same ↦ (subst (λ (z : X). Contains (x ∷ xs) z) (sym same) (Contains-head x xs), ap t same ∙ passes)
+        | inr later ↦ (Contains-tail x y xs (rest later).0, (rest later).1)
+      ]
+      by false passes rest one = (Contains-tail x y xs (rest one).0, (rest one).1)
+
+  pub Contains-insert : (xs : List X) (i : ℕ) (y q : X) → Contains (insert xs i y) q ↔ (Contains xs q ⊎ (q ≡ y))
+  Contains-insert xs i y q = (
+    λ one. elim (Contains-cases y q xs (Contains-permutation (insert xs i y) (y ∷ xs) q (IsPermutation-sym (y ∷ xs) (insert xs i y) (IsPermutation-insert xs i y)) one)) [ inl same ↦ inr same | inr later ↦ inl later ],
+    λ either. Contains-permutation (y ∷ xs) (insert xs i y) q (IsPermutation-insert xs i y) (elim either [ inl there ↦ Contains-tail y q xs there | inr same ↦ subst (λ (z : X). Contains (y ∷ xs) z) (sym same) (Contains-head y xs) ]),
+  )
+
+module _ {X : Type 0} (cmp : X → X → Ordering) (o : IsTotalOrder cmp) where
+  not_lt_above : (x y : X) → cmp x y ≡ Less → is_lt (cmp y x) ≡ false
+  not_lt_above x y less = rw (o.antisymm y x, less) refl
+
+  not_lt_greater : (x y : X) → cmp x y ≡ Greater → is_lt (cmp x y) ≡ false
+  not_lt_greater x y greater = rw greater refl
+
+  -- an element put between those that are less and those that are greater
+  pub IsSorted-insert : (xs : List X) (i : ℕ) (y : X) → IsSorted cmp xs → i ≤ length xs
+      → ((k : ℕ) (d : X) → k < i → cmp (get_or xs k d) y ≡ Less) → ((k : ℕ) (d : X) → i ≤ k → k < length xs → cmp (get_or xs k d) y ≡ Greater)
+      → IsSorted cmp (insert xs i y)
+  IsSorted-insert xs i y sorted at below above k d low before_end =
+    let within : k + 1 < length xs + 1 = subst (λ (n : ℕ). k + 1 < n) (length-insert xs i y at) before_end in
+    elim (cases_lt k i) [
+    | inl before ↦ elim (cases_lt (k + 1) i) [
+      | inl both ↦ rw (get_or-insert_below xs i y d k before at, get_or-insert_below xs i y d (k + 1) both at) (sorted k d (omega arith) (omega arith))
+      | inr last ↦
+          let here : k + 1 ≡ i = omega arith in
+          rw (get_or-insert_below xs i y d k before at, here, get_or-insert_at xs i y d at) (not_lt_above _ _ (below k d before))
+    ]
+    | inr after ↦ elim (cases_eq k i) [
+      | inl same ↦ rw (get_or-insert_above xs i y d k after at, same, get_or-insert_at xs i y d at) (not_lt_greater _ _ (above i d (omega arith) (omega arith)))
+      | inr beyond ↦
+          let shifted : (k - 1) + 1 ≡ k = omega arith in
+          let left : get_or (insert xs i y) k d ≡ get_or xs (k - 1) d = subst (λ (n : ℕ). get_or (insert xs i y) n d ≡ get_or xs (k - 1) d) shifted (get_or-insert_above xs i y d (k - 1) (omega arith) at) in
+          let step : is_lt (cmp (get_or xs ((k - 1) + 1) d) (get_or xs (k - 1) d)) ≡ false = sorted (k - 1) d (omega arith) (omega arith) in
+          rw (get_or-insert_above xs i y d k after at, left) (subst (λ (n : ℕ). is_lt (cmp (get_or xs n d) (get_or xs (k - 1) d)) ≡ false) shifted step)
+    ]
+  ]
+
+module _ {X : Type 0} where
+  pub drop_read : (xs : List X) (i : ℕ) (x : X) → i < length xs → x ≡ get_or xs i x → drop i xs ≡ x ∷ drop (i + 1) xs
+  drop_read xs i x within is =
+      drop-cons xs i x within ∙ ap (λ (z : X). z ∷ drop (suc i) xs) (sym is) ∙ ap (λ (n : ℕ). x ∷ drop n xs) (sym (add-one i))
+
+  -- the first of what is left goes to what is there
+  pub Contains-step : (there left : List X) (x q : X) (rest more : List X) → {A : Type 0} → left ≡ x ∷ rest → Contains more q ↔ (Contains there q ⊎ (q ≡ x)) → ((Contains there q ⊎ Contains left q) ↔ A) → (Contains more q ⊎ Contains rest q) ↔ A
+  Contains-step there left x q rest more {A} front step before = (
+    λ either. before.0 (elim either [
+      | inl one ↦ elim (step.0 one) [ inl old ↦ inl old | inr same ↦ inr (subst (λ (l : List X). Contains l q) (sym front) (subst (λ (z : X). Contains (z ∷ rest) q) same (Contains-head q rest))) ]
+      | inr later ↦ inr (subst (λ (l : List X). Contains l q) (sym front) (Contains-tail x q rest later))
+    ]),
+    λ a. elim (before.1 a) [
+      | inl old ↦ inl (step.1 (inl old))
+      | inr one ↦ elim (Contains-cases x q rest (subst (λ (l : List X). Contains l q) front one)) [ inl same ↦ inl (step.1 (inr same)) | inr later ↦ inr later ]
+    ],
+  )
+
+  pub Contains-exchanged : (old kept new more : List X) (done q : X) → Contains new q ↔ (Contains kept q ⊎ Contains more q) → Contains kept q ↔ (Contains old q × (q ≢ done)) → Contains new q ↔ ((Contains old q × (q ≢ done)) ⊎ Contains more q)
+  Contains-exchanged old kept new more done q put took = (
+    λ one. elim (put.0 one) [ inl left ↦ inl (took.0 left) | inr added ↦ inr added ],
+    λ either. put.1 (elim either [ inl left ↦ inl (took.1 left) | inr added ↦ inr added ]),
+  )

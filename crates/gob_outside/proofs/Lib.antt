@@ -1,0 +1,4 @@
+mod Noting
+mod Pieces
+mod Reading
+pub mod Rising

@@ -1,0 +1,4 @@
+pub mod Count
+pub mod MemSink
+pub mod Faults
+pub mod MemFiles

@@ -1,0 +1,4 @@
+pub mod Ascending
+pub mod Resting
+pub mod Fitting
+pub mod Within

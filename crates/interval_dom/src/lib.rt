@@ -1,0 +1,8 @@
+//! Intervals of whole numbers: what is known of a variable.
+#![tactic(auto)]
+
+mod interval;
+mod width;
+
+pub use interval::Interval;
+pub use width::Width;

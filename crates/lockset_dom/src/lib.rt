@@ -1,0 +1,6 @@
+//! Sets of held mutexes: sets of numbers below 8.
+#![tactic(auto)]
+
+mod locks;
+
+pub use locks::Locks;

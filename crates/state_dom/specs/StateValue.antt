@@ -1,0 +1,81 @@
+-- What contracts see of a state, what it describes, and the order and join of states.
+use Rattle.std.specs.Prelude.{ℕ, ℤ, pos, List, [], ◌∷◌, Bool, true, false, length, replicate}
+use Rattle.interval_dom.specs.Bounds.{Bounds, between, Describes, Covers, hull}
+use Rattle.interval_dom.specs.Marks.{widened}
+use Rattle.lockset_dom.specs.Members.{Includes, no_locks, shared_members}
+
+-- a point that no run reaches, which keeps the room of its slots; or an interval for each slot,
+-- and the mutexes that are surely held
+pub data StateValue : Type 0 where
+  Bottom : (room : ℕ) → StateValue
+  Reached : (slots : List Bounds) (locks : ℕ) → StateValue
+
+-- the value of a state that is kept as a mark, slots and locks
+abbrev pub state_value : Bool → List Bounds → ℕ → StateValue
+state_value true slots locks = Reached slots locks
+state_value false slots locks = Bottom (length slots)
+
+-- the number of slots
+abbrev pub room_of : StateValue → ℕ
+room_of (Bottom room) = room
+room_of (Reached slots locks) = length slots
+
+abbrev pub slots_of : StateValue → List Bounds
+slots_of (Bottom room) = []
+slots_of (Reached slots locks) = slots
+
+abbrev pub locks_of : StateValue → ℕ
+locks_of (Bottom room) = no_locks
+locks_of (Reached slots locks) = locks
+
+abbrev pub is_reached : StateValue → Bool
+is_reached (Bottom room) = false
+is_reached (Reached slots locks) = true
+
+-- each slot [0,0], and no lock
+abbrev pub start_of : ℕ → StateValue
+start_of room = Reached (replicate room (between (pos 0) (pos 0))) no_locks
+
+-- each number is in the interval of its place
+abbrev pub DescribesEach : List Bounds → List ℤ → Type 0
+DescribesEach [] [] = Unit {0}
+DescribesEach [] (n ∷ ns) = ⊥
+DescribesEach (x ∷ xs) [] = ⊥
+DescribesEach (x ∷ xs) (n ∷ ns) = Describes x n × DescribesEach xs ns
+
+-- the state describes these numbers in the slots, and these owned mutexes
+abbrev pub DescribesState : StateValue → List ℤ → ℕ → Type 0
+DescribesState (Bottom room) numbers owned = ⊥
+DescribesState (Reached slots locks) numbers owned = DescribesEach slots numbers × Includes owned locks
+
+-- the interval of each place is inside that of the outer list
+abbrev pub CoversEach : List Bounds → List Bounds → Type 0
+CoversEach [] [] = Unit {0}
+CoversEach [] (y ∷ ys) = ⊥
+CoversEach (x ∷ xs) [] = ⊥
+CoversEach (x ∷ xs) (y ∷ ys) = Covers x y × CoversEach xs ys
+
+-- the outer state bounds the inner one: its intervals are at least as wide, and it holds no mutex
+-- that the inner one doesn't hold
+abbrev pub CoversState : StateValue → StateValue → Type 0
+CoversState outer (Bottom room) = Unit {0}
+CoversState (Bottom room) (Reached slots locks) = ⊥
+CoversState (Reached slots locks) (Reached inner inner_locks) = CoversEach slots inner × Includes inner_locks locks
+
+-- an operation on two intervals, place by place
+abbrev pub on_each : (Bounds → Bounds → Bounds) → List Bounds → List Bounds → List Bounds
+on_each f [] ys = []
+on_each f (x ∷ xs) [] = []
+on_each f (x ∷ xs) (y ∷ ys) = f x y ∷ on_each f xs ys
+
+-- the least state that bounds both
+abbrev pub join_of : StateValue → StateValue → StateValue
+join_of (Bottom room) b = b
+join_of (Reached slots locks) (Bottom room) = Reached slots locks
+join_of (Reached slots locks) (Reached others other_locks) = Reached (on_each hull slots others) (shared_members locks other_locks)
+
+-- the old state raised by a new one: an end that moves goes on to a threshold
+abbrev pub raised_by : List ℤ → StateValue → StateValue → StateValue
+raised_by marks (Bottom room) new = new
+raised_by marks (Reached slots locks) (Bottom room) = Reached slots locks
+raised_by marks (Reached slots locks) (Reached others other_locks) = Reached (on_each (λ x y. widened x y marks) slots others) (shared_members locks other_locks)
