@@ -21,6 +21,7 @@ use std::alloc::Global;
 /// The longest text that is taken, in bytes.
 const MAX_TEXT: usize = 65_536;
 
+/// The program as its tokens are read, from left to right.
 fn read_program(alloc: Global, text: &[u8]) -> Result<Program, LoneFault>
     ensures { Gives result (program_in text.now) }
 {

@@ -15,7 +15,7 @@ use std::alloc::Global;
 /// The greatest number, that of the type `int`.
 const MAX_NUMBER: u32 = 2_147_483_647;
 
-/// The longest front of bytes that belong to a word, and the rest.
+/// How many bytes at the front belong to a word.
 fn word_front(text: &[u8]) -> usize
     ensures { result ≡ prefix_len words_spec.is_word_byte text.now }
 {
@@ -26,7 +26,8 @@ fn word_front(text: &[u8]) -> usize
     end
 }
 
-/// The first piece of a text that isn't empty, and what follows it.
+/// The first piece of a text, and what follows it; `None` where the text is empty. A piece is the
+/// longest run of letters, digits and `_`, or another byte alone.
 fn first_piece(text: &[u8]) -> Option<(&[u8], &[u8])>
     ensures cases { MatchOption result (text.now ≡ []) (λ p. spec.pieces text.now ≡ p.0.now ∷ spec.pieces p.1.now) }
     ensures bytes { IfSome result (λ p. (text.now ≡ p.0.now ++ p.1.now) × (0 < length p.0.now)) }
@@ -177,7 +178,6 @@ fn is_blank_piece(piece: &[u8]) -> bool
     }
 }
 
-#[tactic(auto, using(crate::proofs::LoneLists::front_step))]
 /// The tokens of a text. Only LF ends a line.
 pub(crate) fn tokens_of(alloc: Global, text: &[u8]) -> Result<Seq<Token>, LoneFault>
     requires { length text.now ≤ 65536 }
