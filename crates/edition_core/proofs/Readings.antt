@@ -1,5 +1,5 @@
 -- What is read from the lists that a table and a program have.
-use Rattle.std.proofs.Common.{◌≡◌, ℕ, zero, suc, ◌+◌, ◌<◌, List, [], ◌∷◌, ◌++◌, length, map, get_or, take, drop, drop-cons, Some, All, slice_get, refl, sym, append_assoc, ap, ◌∙◌, subst, add-one, arith, false, ◌≢◌}
+use Rattle.std.proofs.Common.{◌≡◌, ℕ, zero, suc, ◌+◌, ◌<◌, List, [], ◌∷◌, ◌++◌, length, map, get_or, take, drop, drop-cons, Some, All, slice_get, refl, sym, append_assoc, ap, ◌∙◌, subst, add-one, arith, true, true≢false}
 use Rattle.std.proofs.Math.Seq.{take-suc}
 use Rattle.std.proofs.lemmas.List.Elements.{All-get_or}
 use Rattle.std.proofs.lemmas.Option.{get_or_from_slice_get, slice_get_within, slice_get_read}
@@ -10,9 +10,7 @@ use Rattle.interval_dom.specs.Bounds.{Bounds}
 use Rattle.state_dom.specs.StateValue.{StateValue, Bottom, Reached, slots_of, is_reached}
 use Rattle.constraint_sys.specs.Sound.{FitsEach, HasShape}
 use Rattle.edition_core.specs.Labels.{labels_of, labels_after, label_of, count_of_name}
-use Rattle.edition_core.specs.Printed.{slots_text, slot_text, state_text, reached_text}
-use Rattle.gob_tree.specs.declared.graph.Program.{Program}
-use Rattle.state_dom.specs.StateValue.{locks_of}
+use Rattle.edition_core.specs.Printed.{slots_text, slot_text}
 
 module _ {X : Type 0} where
   pub All_at : (P : X → Type 0) (xs : List X) (i : ℕ) (x : X) → slice_get xs i ≡ Some x → All P xs → P x
@@ -62,8 +60,8 @@ fits_each_length (slot ∷ slots) [] fits = absurd fits
 fits_each_length (slot ∷ slots) (x ∷ xs) fits = ap suc (fits_each_length slots xs fits.1)
 
 -- a state that isn't Bottom has an interval for each slot
-pub shape_length : (slots : List Slot) (s : StateValue) → is_reached s ≢ false → HasShape slots s → length (slots_of s) ≡ length slots
-shape_length slots (Bottom room) reached shape = absurd (reached refl)
+pub shape_length : (slots : List Slot) (s : StateValue) → is_reached s ≡ true → HasShape slots s → length (slots_of s) ≡ length slots
+shape_length slots (Bottom room) reached shape = absurd (true≢false (sym reached))
 shape_length slots (Reached state locks) reached shape = fits_each_length slots state shape
 
 -- the labels of a function among those of all
@@ -73,7 +71,3 @@ labels_at funcs all i f labels same is read =
     read ∙ ap (λ (l : List (List (List ℕ))). get_or l i labels) same
     ∙ get_or-map (λ (g : FuncGraph). labels_of g.slots) funcs i f labels (slice_get_within funcs i f is)
     ∙ ap (λ (g : FuncGraph). labels_of g.slots) (get_or_from_slice_get funcs i f f is)
-
-pub state_text_reached : (p : Program) (f : FuncGraph) (node : ℕ) (s : StateValue) → is_reached s ≢ false → state_text p f node s ≡ reached_text p f node (slots_of s) (locks_of s)
-state_text_reached p f node (Bottom room) reached = absurd (reached refl)
-state_text_reached p f node (Reached slots locks) reached = refl
