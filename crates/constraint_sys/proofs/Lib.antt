@@ -1,3 +1,15 @@
 pub mod Copied
+pub mod Entries
+pub mod Locality
 pub mod Ordered
-pub mod Same
+pub mod Quiet
+pub mod Readers
+pub mod Replaying
+pub mod Rising
+pub mod Rooms
+pub mod SameMarks
+pub mod Shaping
+pub mod SoundStart
+pub mod SoundTurns
+pub mod Starting
+pub mod Turning

@@ -1,11 +1,11 @@
 -- Lists without regard to order, and lists that ascend, as their elements come and go.
-use Rattle.std.proofs.Common.{◌≡◌, ◌≢◌, ℕ, zero, suc, ◌+◌, ◌-◌, ◌<◌, ◌≤◌, ◌⊎◌, ◌↔◌, inl, inr, Bool, true, false, cond, not, List, [], ◌∷◌, length, drop, drop-cons, add-one, get_or, refl, sym, ap, subst, ◌∙◌, arith, true≢false}
+use Rattle.std.proofs.Common.{◌≡◌, ◌≢◌, ℕ, zero, suc, ◌+◌, ◌-◌, ◌<◌, ◌≤◌, ◌⊎◌, ◌↔◌, inl, inr, Bool, true, false, cond, List, [], ◌∷◌, ◌++◌, map, length, drop, drop-cons, add-one, get_or, refl, sym, ap, subst, ◌∙◌, arith}
 use Rattle.std.specs.Prelude.{Contains, filter, insert, IsSorted}
-use Rattle.std.specs.Ordering.{is_lt, ordering_reverse}
+use Rattle.std.specs.List.{flat_map}
+use Rattle.std.specs.Ordering.{is_lt}
 use Rattle.std.specs.declared.cmp.Ordering.{Ordering}
-use Rattle.std.specs.declared.cmp.Ordering.TheVariants.{Less, Equal, Greater}
+use Rattle.std.specs.declared.cmp.Ordering.TheVariants.{Less, Greater}
 use Rattle.std.specs.Cmp.{IsTotalOrder}
-use Rattle.std.specs.List.Sorted.{IsPartitionPoint}
 use Rattle.std.proofs.lemmas.Bool.{cases_eq, cases_lt}
 use Rattle.std.proofs.lemmas.List.Edits.{get_or-insert_below, get_or-insert_at, get_or-insert_above, length-insert}
 use Rattle.std.proofs.lemmas.List.Sorted.{IsPermutation-insert, IsPermutation-sym, Contains-permutation}
@@ -64,23 +64,23 @@ module _ {X : Type 0} (cmp : X → X → Ordering) (o : IsTotalOrder cmp) where
       → ((k : ℕ) (d : X) → k < i → cmp (get_or xs k d) y ≡ Less) → ((k : ℕ) (d : X) → i ≤ k → k < length xs → cmp (get_or xs k d) y ≡ Greater)
       → IsSorted cmp (insert xs i y)
   IsSorted-insert xs i y sorted at below above k d low before_end =
-    let within : k + 1 < length xs + 1 = subst (λ (n : ℕ). k + 1 < n) (length-insert xs i y at) before_end in
-    elim (cases_lt k i) [
-    | inl before ↦ elim (cases_lt (k + 1) i) [
-      | inl both ↦ rw (get_or-insert_below xs i y d k before at, get_or-insert_below xs i y d (k + 1) both at) (sorted k d (omega arith) (omega arith))
-      | inr last ↦
-          let here : k + 1 ≡ i = omega arith in
-          rw (get_or-insert_below xs i y d k before at, here, get_or-insert_at xs i y d at) (not_lt_above _ _ (below k d before))
-    ]
-    | inr after ↦ elim (cases_eq k i) [
-      | inl same ↦ rw (get_or-insert_above xs i y d k after at, same, get_or-insert_at xs i y d at) (not_lt_greater _ _ (above i d (omega arith) (omega arith)))
-      | inr beyond ↦
-          let shifted : (k - 1) + 1 ≡ k = omega arith in
-          let left : get_or (insert xs i y) k d ≡ get_or xs (k - 1) d = subst (λ (n : ℕ). get_or (insert xs i y) n d ≡ get_or xs (k - 1) d) shifted (get_or-insert_above xs i y d (k - 1) (omega arith) at) in
-          let step : is_lt (cmp (get_or xs ((k - 1) + 1) d) (get_or xs (k - 1) d)) ≡ false = sorted (k - 1) d (omega arith) (omega arith) in
-          rw (get_or-insert_above xs i y d k after at, left) (subst (λ (n : ℕ). is_lt (cmp (get_or xs n d) (get_or xs (k - 1) d)) ≡ false) shifted step)
-    ]
-  ]
+      let within : k + 1 < length xs + 1 = subst (λ (n : ℕ). k + 1 < n) (length-insert xs i y at) before_end in
+      elim (cases_lt k i) [
+        | inl before ↦ elim (cases_lt (k + 1) i) [
+          | inl both ↦ rw (get_or-insert_below xs i y d k before at, get_or-insert_below xs i y d (k + 1) both at) (sorted k d (omega arith) (omega arith))
+          | inr last ↦
+              let here : k + 1 ≡ i = omega arith in
+              rw (get_or-insert_below xs i y d k before at, here, get_or-insert_at xs i y d at) (not_lt_above _ _ (below k d before))
+        ]
+        | inr after ↦ elim (cases_eq k i) [
+          | inl same ↦ rw (get_or-insert_above xs i y d k after at, same, get_or-insert_at xs i y d at) (not_lt_greater _ _ (above i d (omega arith) (omega arith)))
+          | inr beyond ↦
+              let shifted : (k - 1) + 1 ≡ k = omega arith in
+              let left : get_or (insert xs i y) k d ≡ get_or xs (k - 1) d = subst (λ (n : ℕ). get_or (insert xs i y) n d ≡ get_or xs (k - 1) d) shifted (get_or-insert_above xs i y d (k - 1) (omega arith) at) in
+              let step : is_lt (cmp (get_or xs ((k - 1) + 1) d) (get_or xs (k - 1) d)) ≡ false = sorted (k - 1) d (omega arith) (omega arith) in
+              rw (get_or-insert_above xs i y d k after at, left) (subst (λ (n : ℕ). is_lt (cmp (get_or xs n d) (get_or xs (k - 1) d)) ≡ false) shifted step)
+        ]
+      ]
 
 module _ {X : Type 0} where
   pub drop_read : (xs : List X) (i : ℕ) (x : X) → i < length xs → x ≡ get_or xs i x → drop i xs ≡ x ∷ drop (i + 1) xs
@@ -105,3 +105,52 @@ module _ {X : Type 0} where
     λ one. elim (put.0 one) [ inl left ↦ inl (took.0 left) | inr added ↦ inr added ],
     λ either. put.1 (elim either [ inl left ↦ inl (took.1 left) | inr added ↦ inr added ]),
   )
+
+module _ {Y : Type 0} where
+  pub Contains-append : (xs ys : List Y) (y : Y) → Contains (xs ++ ys) y → Contains xs y ⊎ Contains ys y
+  Contains-append [] ys y one = inr one
+  Contains-append (x ∷ xs) ys y one = elim (Contains-cases x y (xs ++ ys) one) [
+    | inl same ↦ inl (subst (λ (z : Y). Contains (x ∷ xs) z) (sym same) (Contains-head x xs))
+    | inr later ↦ elim (Contains-append xs ys y later) [ inl left ↦ inl (Contains-tail x y xs left) | inr right ↦ inr right ]
+  ]
+
+  pub Contains-left : (xs ys : List Y) (y : Y) → Contains xs y → Contains (xs ++ ys) y
+  Contains-left [] ys y one = absurd (Contains-nil y one)
+  Contains-left (x ∷ xs) ys y one = elim (Contains-cases x y xs one) [
+    | inl same ↦ subst (λ (z : Y). Contains (x ∷ (xs ++ ys)) z) (sym same) (Contains-head x (xs ++ ys))
+    | inr later ↦ Contains-tail x y (xs ++ ys) (Contains-left xs ys y later)
+  ]
+
+  pub Contains-right : (xs ys : List Y) (y : Y) → Contains ys y → Contains (xs ++ ys) y
+  Contains-right [] ys y one = one
+  Contains-right (x ∷ xs) ys y one = Contains-tail x y (xs ++ ys) (Contains-right xs ys y one)
+
+module _ {X Y : Type 0} where
+  -- an element of a mapped list comes from one of the list
+  pub Contains-map : (g : X → Y) (xs : List X) (y : Y) → Contains (map g xs) y → (x : X) × Contains xs x × (y ≡ g x)
+  Contains-map g [] y one = absurd (Contains-nil y one)
+  Contains-map g (x ∷ xs) y one = elim (Contains-cases (g x) y (map g xs) one) [
+    | inl same ↦ (x, Contains-head x xs, same)
+    | inr later ↦ (let rest = Contains-map g xs y later in (rest.0, Contains-tail x rest.0 xs rest.1, rest.2))
+  ]
+
+  pub Contains-mapped : (g : X → Y) (xs : List X) (x : X) → Contains xs x → Contains (map g xs) (g x)
+  Contains-mapped g [] x one = absurd (Contains-nil x one)
+  Contains-mapped g (z ∷ xs) x one = elim (Contains-cases z x xs one) [
+    | inl same ↦ subst (λ (w : X). Contains (g z ∷ map g xs) (g w)) (sym same) (Contains-head (g z) (map g xs))
+    | inr later ↦ Contains-tail (g z) (g x) (map g xs) (Contains-mapped g xs x later)
+  ]
+
+  pub Contains-flat_map : (g : X → List Y) (xs : List X) (y : Y) → Contains (flat_map g xs) y → (x : X) × Contains xs x × Contains (g x) y
+  Contains-flat_map g [] y one = absurd (Contains-nil y one)
+  Contains-flat_map g (x ∷ xs) y one = elim (Contains-append (g x) (flat_map g xs) y one) [
+    | inl here ↦ (x, Contains-head x xs, here)
+    | inr later ↦ (let rest = Contains-flat_map g xs y later in (rest.0, Contains-tail x rest.0 xs rest.1, rest.2))
+  ]
+
+  pub Contains-flat_mapped : (g : X → List Y) (xs : List X) (x : X) (y : Y) → Contains xs x → Contains (g x) y → Contains (flat_map g xs) y
+  Contains-flat_mapped g [] x y one inner = absurd (Contains-nil x one)
+  Contains-flat_mapped g (z ∷ xs) x y one inner = elim (Contains-cases z x xs one) [
+    | inl same ↦ Contains-left (g z) (flat_map g xs) y (subst (λ (w : X). Contains (g w) y) same inner)
+    | inr later ↦ Contains-right (g z) (flat_map g xs) y (Contains-flat_mapped g xs x y later inner)
+  ]

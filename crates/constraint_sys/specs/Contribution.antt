@@ -1,5 +1,5 @@
 -- What a point gets from the edges that end there.
-use Rattle.std.specs.Prelude.{ℕ, zero, suc, List, [], ◌∷◌, filter, length, nat_eq}
+use Rattle.std.specs.Prelude.{◌≢◌, None, Contains, ℕ, zero, suc, Bool, ◌&&◌, List, [], ◌∷◌, filter, is_some, length, map, nat_eq}
 use Rattle.std.specs.List.{flat_map}
 use Rattle.gob_tree.specs.declared.graph.Edge.{Edge}
 use Rattle.gob_tree.specs.declared.graph.Program.{Program}
@@ -9,7 +9,7 @@ use Rattle.constraint_sys.specs.declared.unknown.Unknown.{Unknown}
 use Rattle.constraint_sys.specs.declared.unknown.Unknown.TheVariants.{Point, Global}
 use Rattle.constraint_sys.specs.declared.value.Contribution.{Contribution}
 use Rattle.constraint_sys.specs.declared.value.Effect.{Effect}
-use Rattle.constraint_sys.specs.Table.{TableValue, edges_at, slots_at, state_at}
+use Rattle.constraint_sys.specs.Table.{TableValue, value_at, edges_at, slots_at, state_at}
 use Rattle.constraint_sys.specs.Transfer.{Outcome, transfer}
 
 -- the edges of function f that end in a node, in order
@@ -43,3 +43,19 @@ abbrev pub read_by : Program → TableValue → Unknown → List Unknown
 read_by p t (Point f key zero) = []
 read_by p t (Point f key (suc node)) = reads_of p t f key (edges_into p f (suc node))
 read_by p t (Global g) = []
+
+-- the contribution of an unknown; a global has none
+abbrev pub contribution_at : Program → TableValue → Unknown → Contribution
+contribution_at p t (Point f key node) = contribution_of p t f key node
+contribution_at p t (Global g) = record { value = Bottom 0; effects = []; reads = [] }
+
+abbrev pub reads_from : TableValue → ℕ → Key → ℕ → Edge → Bool
+reads_from t f key node e = nat_eq e.from node && is_some (value_at t (Point f key e.to))
+
+-- the points of the table that the edges from a node lead to
+abbrev pub readers_of : Program → TableValue → ℕ → Key → ℕ → List Unknown
+readers_of p t f key node = map (λ (e : Edge). Point f key e.to) (filter (reads_from t f key node) (edges_at p f))
+
+-- q is a point of the table whose right side reads u
+abbrev pub Reads : Program → TableValue → Unknown → Unknown → Type 0
+Reads p t q u = (value_at t q ≢ None) × Contains (read_by p t q) u

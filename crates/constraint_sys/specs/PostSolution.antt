@@ -1,5 +1,5 @@
 -- Post-solutions: tables that bound what each of their points contributes.
-use Rattle.std.specs.Prelude.{◌≡◌, ◌≢◌, ℕ, ◌<◌, List, Option, None, Some, length, slice_get, All}
+use Rattle.std.specs.Prelude.{◌≡◌, ◌≢◌, ℕ, ◌<◌, Option, None, Some, length, slice_get, All}
 use Rattle.gob_tree.specs.declared.graph.Program.{Program}
 use Rattle.gob_tree.specs.declared.unit.GlobalDecl.{GlobalDecl}
 use Rattle.interval_dom.specs.Bounds.{between, Covers}
@@ -7,7 +7,6 @@ use Rattle.state_dom.specs.StateValue.{start_of, CoversState}
 use Rattle.constraint_sys.specs.declared.unknown.Key.{Key}
 use Rattle.constraint_sys.specs.declared.unknown.Unknown.{Unknown}
 use Rattle.constraint_sys.specs.declared.unknown.Unknown.TheVariants.{Point, Global}
-use Rattle.constraint_sys.specs.declared.value.Contribution.{Contribution}
 use Rattle.constraint_sys.specs.declared.value.Effect.{Effect}
 use Rattle.constraint_sys.specs.declared.value.Value.{Value}
 use Rattle.constraint_sys.specs.declared.value.Value.TheVariants.{State, Number}

@@ -1,5 +1,5 @@
 -- Tables: the values of unknowns, as the list of their entries in the order in which they arose.
-use Rattle.std.specs.Prelude.{◌≡◌, ◌≢◌, ℕ, Bool, List, [], Option, None, Some, IsSome, length, slice_get}
+use Rattle.std.specs.Prelude.{ℕ, Bool, List, [], Option, None, Some, IsSome, length, slice_get}
 use Rattle.std.specs.declared.cmp.Ordering.{Ordering}
 use Rattle.std.specs.Map.{lookup}
 use Rattle.indexmap.specs.IndexMap.{insert_entry}
@@ -13,7 +13,7 @@ use Rattle.state_dom.specs.StateValue.{StateValue, Bottom, Reached}
 use Rattle.constraint_sys.specs.declared.unknown.ArgKey.TheVariants.{Absent}
 use Rattle.constraint_sys.specs.declared.unknown.Key.{Key}
 use Rattle.constraint_sys.specs.declared.unknown.Unknown.{Unknown}
-use Rattle.constraint_sys.specs.declared.unknown.Unknown.TheVariants.{Point, Global}
+use Rattle.constraint_sys.specs.declared.unknown.Unknown.TheVariants.{Point}
 use Rattle.constraint_sys.specs.declared.value.Value.{Value}
 use Rattle.constraint_sys.specs.declared.value.Value.TheVariants.{State, Number}
 use Rattle.constraint_sys.specs.contracts.unknown.UnknownOrd.TheImpl.{ghosts as orders}

@@ -6,7 +6,7 @@ use Rattle.gob_tree.specs.declared.graph.Program.{Program}
 use Rattle.gob_tree.specs.declared.unit.Slot.{Slot}
 use Rattle.interval_dom.specs.Bounds.{Bounds}
 use Rattle.interval_dom.specs.Ranges.{full}
-use Rattle.state_dom.specs.Evaluation.{valued, Valued, converted_to, interval_width_of, width_at}
+use Rattle.state_dom.specs.Evaluation.{valued, converted_to, interval_width_of, width_at}
 use Rattle.state_dom.specs.StateValue.{StateValue, Bottom, Reached}
 use Rattle.constraint_sys.specs.declared.unknown.Key.{Key}
 use Rattle.constraint_sys.specs.declared.unknown.Unknown.{Unknown}

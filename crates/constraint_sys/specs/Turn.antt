@@ -3,12 +3,11 @@ use Rattle.std.specs.Prelude.{◌≡◌, ◌≢◌, ◌⊎◌, ◌↔◌, ℕ, z
 use Rattle.gob_tree.specs.declared.graph.Program.{Program}
 use Rattle.gob_tree.specs.declared.unit.GlobalDecl.{GlobalDecl}
 use Rattle.interval_dom.specs.Marks.{widened}
-use Rattle.state_dom.specs.StateValue.{StateValue, Bottom, raised_by}
+use Rattle.state_dom.specs.StateValue.{Bottom, raised_by}
 use Rattle.state_dom.specs.ThresholdValues.{thresholds_of}
 use Rattle.constraint_sys.specs.declared.unknown.Key.{Key}
 use Rattle.constraint_sys.specs.declared.unknown.Unknown.{Unknown}
 use Rattle.constraint_sys.specs.declared.unknown.Unknown.TheVariants.{Point, Global}
-use Rattle.constraint_sys.specs.declared.value.Contribution.{Contribution}
 use Rattle.constraint_sys.specs.declared.value.Effect.{Effect}
 use Rattle.constraint_sys.specs.declared.value.Value.{Value}
 use Rattle.constraint_sys.specs.declared.value.Value.TheVariants.{State, Number}
@@ -28,10 +27,12 @@ abbrev pub numbers_from : ℕ → ℕ → List ℕ
 numbers_from n zero = []
 numbers_from n (suc count) = n ∷ numbers_from (n + 1) count
 
--- the nodes of a function in a context but its start, as Bottom
+-- a function's nodes in a context but the start, as Bottom with room for so many slots
+abbrev pub bottoms : ℕ → ℕ → Key → ℕ → TableValue
+bottoms room f key nodes = map (λ (node : ℕ). (Point f key node, State (Bottom room))) (numbers_from 1 (nodes - 1))
+
 abbrev pub bottom_nodes : Program → ℕ → Key → TableValue
-bottom_nodes p f key =
-    map (λ (node : ℕ). (Point f key node, State (Bottom (length (slots_at p f))))) (numbers_from 1 (length (nodes_at p f) - 1))
+bottom_nodes p f key = bottoms (length (slots_at p f)) f key (length (nodes_at p f))
 
 -- the entries that come with an unknown that wasn't there: a start brings its function's nodes
 abbrev pub arising : Program → Unknown → Value → TableValue
@@ -103,9 +104,12 @@ initial_globals g (decl ∷ rest) = (Global g, initial_value decl) ∷ initial_g
 abbrev pub initial_table : Program → TableValue
 initial_table p = (Point p.main empty_key 0, main_start_value p) ∷ bottom_nodes p p.main empty_key ++ initial_globals 0 p.globals
 
--- `main`'s nodes but the start
+-- a function's nodes in a context but the start
+abbrev pub nodes_after_start : ℕ → Key → ℕ → List Unknown
+nodes_after_start f key nodes = map (λ (node : ℕ). Point f key node) (numbers_from 1 (nodes - 1))
+
 abbrev pub initial_dirty : Program → List Unknown
-initial_dirty p = map (λ (node : ℕ). Point p.main empty_key node) (numbers_from 1 (length (nodes_at p p.main) - 1))
+initial_dirty p = nodes_after_start p.main empty_key (length (nodes_at p p.main))
 
 abbrev pub initial_of : Program → Solving
 initial_of p = record { table = initial_table p; dirty = initial_dirty p }

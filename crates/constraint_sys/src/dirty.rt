@@ -38,6 +38,14 @@ impl Dirty {
         }
     }
 
+    /// The set of these points, which ascend.
+    pub(crate) fn of_ascending(points: Vec<Unknown>) -> Dirty
+        requires { IsSorted unknown_cmp points.items }
+        ensures { result ≡ points.items }
+    {
+        Dirty { points }
+    }
+
     /// Whether there is no member.
     pub fn is_empty(&self) -> bool
         ensures { IsTrue result ↔ (self.now ≡ []) }
@@ -62,8 +70,8 @@ impl Dirty {
 
     /// Takes one point out and adds others; `Memory` is want of memory, and leaves the set as it
     /// was.
-    pub(crate) fn exchange(&mut self, done: Unknown, more: &[Unknown]) -> Result<(), Memory>
-        ensures ok { (q : TheUnknown) → OnOk result (Contains self.new q ↔ (((Contains self.old q) × (q ≢ done)) ⊎ Contains more.now q)) }
+    pub(crate) fn exchange(&mut self, done: &Unknown, more: &[Unknown]) -> Result<(), Memory>
+        ensures ok { (q : TheUnknown) → OnOk result (Contains self.new q ↔ (((Contains self.old q) × (q ≢ done.now)) ⊎ Contains more.now q)) }
         ensures err { OnErr result (self.new ≡ self.old) }
     {
         self.points.reserve(more.len())?;
@@ -73,15 +81,15 @@ impl Dirty {
     }
 }
 
-fn take_out(points: &mut Vec<Unknown>, done: Unknown)
+fn take_out(points: &mut Vec<Unknown>, done: &Unknown)
     requires { IsSorted unknown_cmp points.old.items }
-    ensures kept { points.new.items ≡ filter (λ q. not (unknown_eq q done)) points.old.items }
-    ensures members { (q : TheUnknown) → Contains points.new.items q ↔ ((Contains points.old.items q) × (q ≢ done)) }
+    ensures kept { points.new.items ≡ filter (λ q. not (unknown_eq q done.now)) points.old.items }
+    ensures members { (q : TheUnknown) → Contains points.new.items q ↔ ((Contains points.old.items q) × (q ≢ done.now)) }
     ensures ordered { IsSorted unknown_cmp points.new.items }
     ensures capacity { vec_capacity points.new ≡ vec_capacity points.old }
     ensures len { vec_len points.new ≤ vec_len points.old }
 {
-    points.retain(|q| *q != done);
+    points.retain(|q| q != done);
 }
 
 fn put_in_all(points: &mut Vec<Unknown>, more: &[Unknown])

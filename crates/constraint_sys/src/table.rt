@@ -4,6 +4,7 @@ ghost use Rattle.std.specs.Option.{option_copied};
 ghost use Rattle.std.specs.List.{IsDistinct};
 ghost use Rattle.std.specs.Map.{keys_of};
 ghost use Rattle.indexmap.specs.IndexMap.{IsUnique};
+ghost use Rattle.constraint_sys.specs.declared.unknown.Unknown.{Unknown as TheUnknown};
 ghost use Rattle.constraint_sys.specs.Table.{value_at, with_value, unknown_eq, unknown_cmp, IsThere};
 
 use crate::unknown::Unknown;
@@ -81,17 +82,18 @@ impl Table {
     pub(crate) fn add(&mut self, u: Unknown, v: Value) -> Result<(), Memory>
         requires { value_at self.old u ≡ None }
         ensures ok { OnOk result (self.new ≡ self.old ++ (u, v) ∷ []) }
+        ensures others { (q : TheUnknown) → OnOk result (q ≢ u → value_at self.new q ≡ value_at self.old q) }
         ensures err { OnErr result (self.new ≡ self.old) }
     {
         put(&mut self.map, u, v)
     }
 
     /// Gives an unknown of the table another value; takes no memory.
-    pub(crate) fn set(&mut self, u: Unknown, v: Value)
-        requires { IsThere self.old u }
-        ensures { self.new ≡ with_value self.old u v }
+    pub(crate) fn set(&mut self, u: &Unknown, v: Value)
+        requires { IsThere self.old u.now }
+        ensures { self.new ≡ with_value self.old u.now v }
     {
-        match put(&mut self.map, u, v) {
+        match put(&mut self.map, *u, v) {
             Ok(()) => {}
             Err(_) => unreachable!(),
         }
@@ -102,6 +104,7 @@ impl Table {
 /// there.
 fn put(map: &mut IndexMap<Unknown, Value>, u: Unknown, v: Value) -> Result<(), Memory>
     ensures put { OnOk result (map.new.entries ≡ with_value map.old.entries u v) }
+    ensures others { (q : TheUnknown) → OnOk result (q ≢ u → value_at map.new.entries q ≡ value_at map.old.entries q) }
     ensures unique { IsUnique unknown_eq map.new }
     ensures err { OnErr result (map.new.entries ≡ map.old.entries) }
     ensures absent { OnErr result (value_at map.old.entries u ≡ None) }

@@ -1,3 +1,4 @@
 pub mod Ascending
 pub mod Resting
 pub mod Fitting
+pub mod Within

@@ -84,7 +84,8 @@ fn sum(a: Evaluated, b: Evaluated) -> Evaluated
     Evaluated { width, value }
 }
 
-fn slot_width(slots: &[Slot], x: u16) -> Width
+/// The width of a slot; that of an int where there is no such slot.
+pub fn slot_width(slots: &[Slot], x: u16) -> Width
     ensures { result ≡ width_at (slice_get slots.now x) }
 {
     match slots.get(x as usize) {

@@ -6,6 +6,6 @@ mod evaluation;
 mod state;
 mod thresholds;
 
-pub use evaluation::{assign, converted, eval, interval_width};
+pub use evaluation::{assign, converted, eval, interval_width, slot_width};
 pub use state::State;
 pub use thresholds::Thresholds;

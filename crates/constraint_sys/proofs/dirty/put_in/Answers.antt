@@ -3,7 +3,7 @@ use Rattle.std.specs.Prelude.{Contains, IsSorted, insert}
 use Rattle.std.specs.Ordering.{is_eq}
 use Rattle.std.proofs.lemmas.List.Sorted.{searchable_from_sorted}
 use Rattle.constraint_sys.proofs.Ordered.{Contains-insert, IsSorted-insert}
-use Rattle.constraint_sys.proofs.Same.{unknown_eq-same}
+use Rattle.constraint_sys.proofs.Entries.{unknown_eq-same}
 use Rattle.constraint_sys.specs.declared.unknown.Unknown.{Unknown}
 use Rattle.constraint_sys.specs.contracts.unknown.UnknownOrd.TheImpl.Laws.{total-law, matches_eq-law}
 use Rattle.constraint_sys.specs.Table.{unknown_cmp, unknown_eq}

@@ -1,6 +1,6 @@
-use Rattle.std.proofs.Common.{◌≡◌, ◌⊎◌, ◌↔◌, ◌+◌, ◌≤◌, ◌<◌, List, [], ◌∷◌, length, drop, inl, inr, sym, subst, arith, refl, get_or}
+use Rattle.std.proofs.Common.{◌≡◌, ◌⊎◌, ◌↔◌, ◌+◌, List, [], ◌∷◌, length, drop, inl, inr, subst, arith}
 use Rattle.std.proofs.Math.ListN.{drop_of_length-le}
-use Rattle.std.specs.Prelude.{Contains, IsSorted}
+use Rattle.std.specs.Prelude.{Contains}
 use Rattle.constraint_sys.proofs.Ordered.{Contains-step, Contains-nil, drop_read}
 use Rattle.constraint_sys.specs.declared.unknown.Unknown.{Unknown}
 use Rattle.constraint_sys.proofs.dirty.put_in_all.Goals as goal
@@ -22,5 +22,5 @@ pub returns-clause-members : goal.returns-clause-members
 returns-clause-members c =
     let done : drop c.loop-u.u-index c.args.more.now ≡ [] = drop_of_length-le c.args.more.now c.loop-u-test.false in
     λ q.
-        let rest = subst (λ (l : List Unknown). (Contains c.loop-u.points.items q ⊎ Contains l q) ↔ (Contains c.args.points.now.items q ⊎ Contains c.args.more.now q)) done (c.loop-u.invariant.members q) in
-        (λ one. rest.0 (inl one), λ either. elim (rest.1 either) [ inl one ↦ one | inr none ↦ absurd (Contains-nil q none) ])
+    let rest = subst (λ (l : List Unknown). (Contains c.loop-u.points.items q ⊎ Contains l q) ↔ (Contains c.args.points.now.items q ⊎ Contains c.args.more.now q)) done (c.loop-u.invariant.members q) in
+    (λ one. rest.0 (inl one), λ either. elim (rest.1 either) [ inl one ↦ one | inr none ↦ absurd (Contains-nil q none) ])

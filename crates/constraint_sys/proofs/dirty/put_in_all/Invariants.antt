@@ -1,4 +1,4 @@
-use Rattle.std.proofs.Common.{◌≡◌, ◌⊎◌, ◌↔◌, ◌+◌, ◌≤◌, length, take, drop, vec_len}
+use Rattle.std.proofs.Common.{◌⊎◌, ◌↔◌, ◌+◌, ◌≤◌, length, drop, vec_len}
 use Rattle.std.specs.Prelude.{Contains, IsSorted}
 use Rattle.std.specs.Vec.{vec_capacity}
 use Rattle.constraint_sys.specs.declared.unknown.Unknown.{Unknown}

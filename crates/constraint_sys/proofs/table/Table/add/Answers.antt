@@ -1,4 +1,4 @@
-use Rattle.std.proofs.Common.{◌≡◌, ◌++◌, ◌∷◌, [], None, subst, sym, ap, ◌∙◌}
+use Rattle.std.proofs.Common.{◌≡◌, ◌≢◌, ◌++◌, ◌∷◌, [], None, subst, ap, ◌∙◌}
 use Rattle.std.specs.Prelude.{OnOk}
 use Rattle.indexmap.proofs.CallerLemmas.{insert_entry-new}
 use Rattle.constraint_sys.specs.Table.{TableValue, unknown_eq, value_at, with_value}
@@ -11,3 +11,6 @@ returns-clause-ok c =
     let last : with_value entries c.args.u c.args.v ≡ entries ++ (c.args.u, c.args.v) ∷ [] = insert_entry-new unknown_eq c.self.inside.map c.args.u c.args.v none in
     let wanted = last ∙ ap (λ (t : TableValue). t ++ (c.args.u, c.args.v) ∷ []) c.self.view_is in
     subst (λ (t : TableValue). OnOk c.put.result (c.put.new.map.entries ≡ t)) wanted c.put.ensures.put
+
+pub returns-clause-others : goal.returns-clause-others
+returns-clause-others c = λ q. subst (λ (t : TableValue). OnOk c.put.result (q ≢ c.args.u → value_at c.put.new.map.entries q ≡ value_at t q)) c.self.view_is (c.put.ensures.others q)

@@ -1,0 +1,149 @@
+-- States that keep the shape of a function's slots.
+use Rattle.std.proofs.Common.{◌≡◌, ℕ, zero, suc, ℤ, List, [], ◌∷◌, ◌++◌, Option, None, Some, refl, ap, arith}
+use Rattle.std.specs.Prelude.{length, slice_get, slice_set, if◌then◌else◌}
+use Rattle.std.specs.List.{flat_map}
+use Rattle.std.proofs.lemmas.List.Elements.{Contains-append_left, Contains-append_right}
+use Rattle.gob_tree.specs.Widths.{lowest, greatest}
+use Rattle.gob_tree.specs.declared.expr.Width.TheVariants.{W32 as Int, W64 as Long}
+use Rattle.gob_tree.specs.declared.graph.Action.{Action}
+use Rattle.gob_tree.specs.declared.graph.Action.TheVariants.{Assign, Read, Write, Nondet, Guard, Assert, Lock, Unlock, Create, Join, Call, Skip}
+use Rattle.gob_tree.specs.declared.graph.Edge.{Edge}
+use Rattle.gob_tree.specs.declared.graph.Program.{Program}
+use Rattle.gob_tree.specs.declared.unit.Slot.{Slot}
+use Rattle.interval_dom.specs.Bounds.{Bounds, Covers, hull}
+use Rattle.interval_dom.specs.Marks.{widened}
+use Rattle.interval_dom.specs.Ranges.{full}
+use Rattle.interval_dom.specs.declared.width.Width.{Width}
+use Rattle.interval_dom.specs.declared.width.Width.TheVariants.{W32, W64}
+use Rattle.interval_dom.proofs.Within.{HasEnds, Covers-wide, fitted-within, hull-within, widened-within, widened-bounds}
+use Rattle.lockset_dom.proofs.Membership.{Holds-shared_members}
+use Rattle.state_dom.specs.Evaluation.{valued, converted_to, interval_width_of, width_at}
+use Rattle.state_dom.specs.StateValue.{StateValue, Bottom, Reached, room_of, CoversEach, CoversState, on_each, join_of, raised_by}
+use Rattle.state_dom.specs.ThresholdValues.{thresholds_of, neighbours, numbers_of_program, widest, has_wide, ends_of_type}
+use Rattle.state_dom.proofs.Bounding.{CoversState-refl}
+use Rattle.constraint_sys.specs.declared.unknown.Key.{Key}
+use Rattle.constraint_sys.specs.declared.unknown.Unknown.TheVariants.{Point}
+use Rattle.constraint_sys.specs.declared.value.Value.{Value}
+use Rattle.constraint_sys.specs.declared.value.Value.TheVariants.{State, Number}
+use Rattle.constraint_sys.specs.Contribution.{edges_into, outcome_of, joined, contribution_of}
+use Rattle.constraint_sys.specs.Sound.{FitsEach, HasShape, IsShaped}
+use Rattle.constraint_sys.specs.Table.{TableValue, value_at, slots_at, state_at, shown, shown_state}
+use Rattle.constraint_sys.specs.Transfer.{assigned, outcome_in, transfer}
+
+pub length-fitted : (slots : List Slot) (xs : List Bounds) → FitsEach slots xs → length xs ≡ length slots
+length-fitted [] [] each = refl
+length-fitted [] (x ∷ xs) each = absurd each
+length-fitted (slot ∷ slots) [] each = absurd each
+length-fitted (slot ∷ slots) (x ∷ xs) each = ap suc (length-fitted slots xs each.1)
+
+-- a shaped state has room for the slots
+pub room_of-shaped : (slots : List Slot) (s : StateValue) → HasShape slots s → room_of s ≡ length slots
+room_of-shaped slots (Bottom room) shaped = shaped
+room_of-shaped slots (Reached xs locks) shaped = length-fitted slots xs shaped
+
+-- an interval that fits its slot may be set there
+pub FitsEach-set : (slots : List Slot) (xs : List Bounds) (i : ℕ) (v : Bounds) → FitsEach slots xs → Covers (full (interval_width_of (width_at (slice_get slots i)))) v → FitsEach slots (slice_set xs i v)
+FitsEach-set [] [] i v each fits = tt
+FitsEach-set [] (x ∷ xs) i v each fits = absurd each
+FitsEach-set (slot ∷ slots) [] i v each fits = absurd each
+FitsEach-set (slot ∷ slots) (x ∷ xs) zero v each fits = (fits, each.1)
+FitsEach-set (slot ∷ slots) (x ∷ xs) (suc i) v each fits = (each.0, FitsEach-set slots xs i v each.1 fits)
+
+-- an operation that stays within each width
+abbrev pub StaysWithin : (Bounds → Bounds → Bounds) → Type 0
+StaysWithin f = (w : Width) (x y : Bounds) → Covers (full w) x → Covers (full w) y → Covers (full w) (f x y)
+
+pub FitsEach-on_each : (f : Bounds → Bounds → Bounds) → StaysWithin f → (slots : List Slot) (xs ys : List Bounds) → FitsEach slots xs → FitsEach slots ys → FitsEach slots (on_each f xs ys)
+FitsEach-on_each f stays [] [] ys left right = tt
+FitsEach-on_each f stays [] (x ∷ xs) ys left right = absurd left
+FitsEach-on_each f stays (slot ∷ slots) [] ys left right = absurd left
+FitsEach-on_each f stays (slot ∷ slots) (x ∷ xs) [] left right = absurd right
+FitsEach-on_each f stays (slot ∷ slots) (x ∷ xs) (y ∷ ys) left right =
+    (stays (interval_width_of slot.width) x y left.0 right.0, FitsEach-on_each f stays slots xs ys left.1 right.1)
+
+-- the ends of each width are marks
+abbrev pub HasAllEnds : List ℤ → Type 0
+HasAllEnds marks = (w : Width) → HasEnds marks w
+
+pub HasAllEnds-thresholds : (p : Program) → HasAllEnds (thresholds_of p)
+HasAllEnds-thresholds p W32 =
+    let front = flat_map (neighbours (widest p)) (numbers_of_program p) in
+    let back = if has_wide p then ends_of_type Long else [] in (
+      Contains-append_left (front ++ ends_of_type Int) back (lowest Int) (Contains-append_right front (ends_of_type Int) (lowest Int) (0, omega arith, refl)),
+      Contains-append_left (front ++ ends_of_type Int) back (greatest Int) (Contains-append_right front (ends_of_type Int) (greatest Int) (1, omega arith, refl)),
+    )
+HasAllEnds-thresholds p W64 = tt
+
+pub HasShape-join : (slots : List Slot) (a b : StateValue) → HasShape slots a → HasShape slots b → HasShape slots (join_of a b)
+HasShape-join slots (Bottom room) b left right = right
+HasShape-join slots (Reached xs locks) (Bottom room) left right = left
+HasShape-join slots (Reached xs locks) (Reached ys other_locks) left right = FitsEach-on_each hull hull-within slots xs ys left right
+
+pub HasShape-raised : (marks : List ℤ) → HasAllEnds marks → (slots : List Slot) (a b : StateValue) → HasShape slots a → HasShape slots b → HasShape slots (raised_by marks a b)
+HasShape-raised marks ends slots (Bottom room) b left right = right
+HasShape-raised marks ends slots (Reached xs locks) (Bottom room) left right = left
+HasShape-raised marks ends slots (Reached xs locks) (Reached ys other_locks) left right =
+    FitsEach-on_each (λ x y. widened x y marks) (λ w x y old new. widened-within w marks x y (ends w) old new) slots xs ys left right
+
+-- a raised state bounds the one that raised it
+CoversEach-raised : (marks : List ℤ) (slots : List Slot) (xs ys : List Bounds) → FitsEach slots xs → FitsEach slots ys → CoversEach (on_each (λ x y. widened x y marks) xs ys) ys
+CoversEach-raised marks [] [] [] left right = tt
+CoversEach-raised marks [] [] (y ∷ ys) left right = absurd right
+CoversEach-raised marks [] (x ∷ xs) ys left right = absurd left
+CoversEach-raised marks (slot ∷ slots) [] ys left right = absurd left
+CoversEach-raised marks (slot ∷ slots) (x ∷ xs) [] left right = absurd right
+CoversEach-raised marks (slot ∷ slots) (x ∷ xs) (y ∷ ys) left right =
+    (widened-bounds marks x y (Covers-wide (interval_width_of slot.width) y right.0), CoversEach-raised marks slots xs ys left.1 right.1)
+
+pub CoversState-raised : (marks : List ℤ) (slots : List Slot) (a b : StateValue) → HasShape slots a → HasShape slots b → CoversState (raised_by marks a b) b
+CoversState-raised marks slots (Bottom room) b left right = CoversState-refl b
+CoversState-raised marks slots (Reached xs locks) (Bottom room) left right = tt
+CoversState-raised marks slots (Reached xs locks) (Reached ys other_locks) left right =
+    (CoversEach-raised marks slots xs ys left right, λ m held. ((Holds-shared_members locks other_locks m).0 held).1)
+
+-- the state that an edge starts from
+shown_state-shaped : (p : Program) (t : TableValue) (f : ℕ) (key : Key) (node : ℕ) (o : Option Value) → value_at t (Point f key node) ≡ o → IsShaped p t → HasShape (slots_at p f) (shown_state (length (slots_at p f)) (shown o))
+shown_state-shaped p t f key node None at shaped = refl
+shown_state-shaped p t f key node (Some (State (Bottom room))) at shaped = refl
+shown_state-shaped p t f key node (Some (State (Reached xs locks))) at shaped = (shaped (Point f key node) (State (Reached xs locks)) at).1
+shown_state-shaped p t f key node (Some (Number n)) at shaped = absurd (shaped (Point f key node) (Number n) at)
+
+pub HasShape-state_at : (p : Program) (t : TableValue) (f : ℕ) (key : Key) (node : ℕ) → IsShaped p t → HasShape (slots_at p f) (state_at p t f key node)
+HasShape-state_at p t f key node shaped = shown_state-shaped p t f key node (value_at t (Point f key node)) refl shaped
+
+assigned-shaped : (slots : List Slot) (state : List Bounds) (locks x : ℕ) (v : Option Bounds) → FitsEach slots state → HasShape slots (assigned slots state locks x v)
+assigned-shaped slots state locks x None fits = length-fitted slots state fits
+assigned-shaped slots state locks x (Some v) fits =
+    let w = width_at (slice_get slots x) in
+    FitsEach-set slots state x (converted_to w v) fits (fitted-within (interval_width_of w) v)
+
+outcome_in-shaped : (slots : List Slot) (state : List Bounds) (locks : ℕ) (act : Action) → FitsEach slots state → HasShape slots (outcome_in slots state locks act).value
+outcome_in-shaped slots state locks (Assign x e) fits = assigned-shaped slots state locks x (valued slots state e).value fits
+outcome_in-shaped slots state locks (Read x g) fits = length-fitted slots state fits
+outcome_in-shaped slots state locks (Write g e) fits = length-fitted slots state fits
+outcome_in-shaped slots state locks (Nondet x) fits =
+    let w = interval_width_of (width_at (slice_get slots x)) in
+    assigned-shaped slots state locks x (Some (full w)) fits
+outcome_in-shaped slots state locks (Guard e wanted) fits = length-fitted slots state fits
+outcome_in-shaped slots state locks (Assert e) fits = length-fitted slots state fits
+outcome_in-shaped slots state locks (Lock m) fits = length-fitted slots state fits
+outcome_in-shaped slots state locks (Unlock m) fits = length-fitted slots state fits
+outcome_in-shaped slots state locks (Create t f) fits = length-fitted slots state fits
+outcome_in-shaped slots state locks (Join t) fits = length-fitted slots state fits
+outcome_in-shaped slots state locks (Call d f args) fits = length-fitted slots state fits
+outcome_in-shaped slots state locks Skip fits = fits
+
+pub transfer-shaped : (p : Program) (t : TableValue) (f : ℕ) (key : Key) (act : Action) (s : StateValue) → HasShape (slots_at p f) s → HasShape (slots_at p f) (transfer p t f key act s).value
+transfer-shaped p t f key act (Bottom room) shaped = shaped
+transfer-shaped p t f key act (Reached state locks) shaped = outcome_in-shaped (slots_at p f) state locks act shaped
+
+pub joined-shaped : (p : Program) (t : TableValue) (f : ℕ) (key : Key) (es : List Edge) → IsShaped p t → HasShape (slots_at p f) (joined p t f key es)
+joined-shaped p t f key [] shaped = refl
+joined-shaped p t f key (e ∷ es) shaped =
+    HasShape-join (slots_at p f) (outcome_of p t f key e).value (joined p t f key es)
+    (transfer-shaped p t f key e.act (state_at p t f key e.from) (HasShape-state_at p t f key e.from shaped))
+    (joined-shaped p t f key es shaped)
+
+-- what a point gets has the shape of its function
+pub contribution-shaped : (p : Program) (t : TableValue) (f : ℕ) (key : Key) (node : ℕ) → IsShaped p t → HasShape (slots_at p f) (contribution_of p t f key node).value
+contribution-shaped p t f key node shaped = joined-shaped p t f key (edges_into p f node) shaped

@@ -1,0 +1,128 @@
+//! The table to begin with.
+ghost use Rattle.std.specs.Prelude.{◌≡◌, ◌++◌, ◌≤◌, [], ◌∷◌, ℕ, IfOk, OnOk, None, IsSorted, length};
+ghost use Rattle.gob_tree.specs.Formed.{IsFormed};
+ghost use Rattle.interval_dom.specs.Bounds.{between};
+ghost use Rattle.state_dom.specs.StateValue.{start_of};
+ghost use Rattle.constraint_sys.specs.Table.{value_at, empty_key, unknown_cmp};
+ghost use Rattle.constraint_sys.specs.Turn.{initial_table, initial_dirty, initial_globals, bottoms, nodes_after_start};
+ghost use Rattle.constraint_sys.specs.declared.unknown.Unknown.TheVariants.{Point, Global as GlobalOf};
+ghost use Rattle.constraint_sys.specs.declared.value.Value.TheVariants.{State as StateOf};
+
+use crate::dirty::Dirty;
+use crate::edges::function_at;
+use crate::table::Table;
+use crate::unknown::{ArgKey, Key, Unknown};
+use crate::value::Value;
+use gob_tree::{FuncGraph, GlobalDecl, Memory, Program};
+use interval_dom::Interval;
+use lockset_dom::Locks;
+use state_dom::State;
+use std::alloc::Global;
+
+/// The table with `main`'s start and the globals at their initial values, and `main`'s other nodes as
+/// Bottom; these are dirty. `Memory` is want of memory.
+pub fn initial(alloc: Global, program: &Program) -> Result<(Table, Dirty), Memory>
+    requires { IsFormed program.now }
+    ensures table { IfOk result (λ both. both.0 ≡ initial_table program.now) }
+    ensures dirty { IfOk result (λ both. both.1 ≡ initial_dirty program.now) }
+{
+    let main = function_at(program, program.main);
+    let mut table = with_start(alloc, program.main, main)?;
+    add_nodes(alloc, &mut table, program.main, main)?;
+    add_globals(&mut table, program.globals.as_slice())?;
+    let points = nodes_after_start(alloc, program.main, main)?;
+    Ok((table, Dirty::of_ascending(points)))
+}
+
+fn point(func: u16, node: u16) -> Unknown
+    ensures { result ≡ Point func empty_key node }
+{
+    Unknown::Point {
+        func,
+        key: Key {
+            a: ArgKey::Absent,
+            b: ArgKey::Absent,
+            locks: Locks::empty(),
+        },
+        node,
+    }
+}
+
+fn room(function: &FuncGraph) -> u16
+    requires { length function.now.slots ≤ 128 }
+    ensures { result ≡ length function.now.slots }
+{
+    function.slots.len() as u16
+}
+
+/// The table with the start of a function alone.
+fn with_start(alloc: Global, func: u16, function: &FuncGraph) -> Result<Table, Memory>
+    requires { length function.now.slots ≤ 128 }
+    ensures { IfOk result (λ t. t ≡ (Point func empty_key 0, StateOf (start_of (length function.now.slots))) ∷ []) }
+{
+    let mut table = Table::new(alloc);
+    let start = State::start(alloc, room(function))?;
+    table.add(point(func, 0), Value::State(start))?;
+    Ok(table)
+}
+
+/// Adds a function's nodes but the start, as Bottom.
+fn add_nodes(
+    alloc: Global,
+    table: &mut Table,
+    func: u16,
+    function: &FuncGraph,
+) -> Result<(), Memory>
+    requires slots_limit { length function.now.slots ≤ 128 }
+    requires entry_and_exit { 2 ≤ length function.now.nodes }
+    requires nodes_limit { length function.now.nodes ≤ 4096 }
+    requires absent { (node : ℕ) → 1 ≤ node → value_at table.old (Point func empty_key node) ≡ None }
+    ensures nodes { OnOk result (table.new ≡ table.old ++ bottoms (length function.now.slots) func empty_key (length function.now.nodes)) }
+    ensures globals { (g : ℕ) → OnOk result (value_at table.new (GlobalOf g) ≡ value_at table.old (GlobalOf g)) }
+{
+    let slots = room(function);
+    let nodes = function.nodes.len() as u16;
+    for node in 1..nodes {
+        let bottom = State::bottom(alloc, slots)?;
+        table.add(point(func, node), Value::State(bottom))?;
+    }
+    Ok(())
+}
+
+/// Adds the globals at their initial values.
+fn add_globals(table: &mut Table, globals: &[GlobalDecl]) -> Result<(), Memory>
+    requires limit { length globals.now ≤ 64 }
+    requires absent { (g : ℕ) → value_at table.old (GlobalOf g) ≡ None }
+    ensures { OnOk result (table.new ≡ table.old ++ initial_globals 0 globals.now) }
+{
+    let count = globals.len() as u16;
+    for g in 0..count {
+        let value = exactly(globals[g as usize].initial);
+        table.add(Unknown::Global(g), Value::Number(value))?;
+    }
+    Ok(())
+}
+
+fn exactly(n: i64) -> Interval
+    ensures { result ≡ between n n }
+{
+    match Interval::new(n, n) {
+        Some(one) => one,
+        None => unreachable!(),
+    }
+}
+
+/// A function's nodes but the start.
+fn nodes_after_start(alloc: Global, func: u16, function: &FuncGraph) -> Result<Vec<Unknown>, Memory>
+    requires entry_and_exit { 2 ≤ length function.now.nodes }
+    requires nodes_limit { length function.now.nodes ≤ 4096 }
+    ensures nodes { IfOk result (λ us. us.items ≡ nodes_after_start func empty_key (length function.now.nodes)) }
+    ensures ascending { IfOk result (λ us. IsSorted unknown_cmp us.items) }
+{
+    let nodes = function.nodes.len() as u16;
+    let mut points = Vec::new(alloc);
+    for node in 1..nodes {
+        points.push(point(func, node))?;
+    }
+    Ok(points)
+}
