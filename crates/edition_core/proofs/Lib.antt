@@ -1,2 +1,3 @@
+pub mod Examples
 mod Order
 mod Readings

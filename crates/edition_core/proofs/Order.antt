@@ -1,13 +1,11 @@
 -- A list in order is the one list in order of its elements.
-use Rattle.std.proofs.Common.{◌≡◌, ◌≢◌, ℕ, zero, suc, ◌+◌, ◌<◌, ◌≤◌, Bool, true, false, cond, List, [], ◌∷◌, length, get_or, refl, sym, ap, subst, ◌∙◌, arith, true≢false}
+use Rattle.std.proofs.Common.{◌≡◌, ℕ, suc, ◌+◌, Bool, true, false, cond, List, [], ◌∷◌, get_or, refl, sym, ap, subst, ◌∙◌, arith, true≢false, rules}
 use Rattle.std.specs.Prelude.{IsSorted, IsPermutation, sum_by}
 use Rattle.std.specs.Ordering.{is_lt, is_eq, ordering_reverse}
 use Rattle.std.specs.declared.cmp.Ordering.{Ordering}
 use Rattle.std.specs.declared.cmp.Ordering.TheVariants.{Less, Equal, Greater}
-use Rattle.std.specs.Cmp.{IsTotalOrder}
 use Rattle.std.proofs.lemmas.List.Sorted.{sum_by-IsPermutation}
 use Rattle.std.proofs.lemmas.List.Sums.{sum_by-cons}
-use Rattle.constraint_sys.proofs.Same.{unknown_eq-same}
 use Rattle.constraint_sys.specs.contracts.unknown.UnknownOrd.TheImpl.Laws.{total-law, matches_eq-law}
 use Rattle.constraint_sys.specs.declared.unknown.Unknown.{Unknown}
 use Rattle.constraint_sys.specs.Table.{unknown_cmp, unknown_eq}
@@ -132,8 +130,11 @@ times_below u v (w ∷ ws) less none =
     let later : times u ws ≡ 0 = times_below u v ws less none.1 in
     omega arith
 
+same_if_eq : (u v : Unknown) → unknown_eq u v ≡ true → u ≡ v
+same_if_eq u v h = search rules
+
 same_if_equal : (u v : Unknown) → unknown_cmp u v ≡ Equal → u ≡ v
-same_if_equal u v h = unknown_eq-same u v (matches_eq-law u v ∙ ap is_eq h)
+same_if_equal u v h = same_if_eq u v (matches_eq-law u v ∙ ap is_eq h)
 
 -- two lists in order that have each unknown equally often are one
 one_in_order : (us vs : List Unknown) → Ascends us → Ascends vs → ((u : Unknown) → times u us ≡ times u vs) → us ≡ vs

@@ -7,3 +7,6 @@ mod printed;
 
 pub use labels::slot_labels;
 pub use printed::print_table;
+
+#[cfg(test)]
+mod tests;
