@@ -7,7 +7,7 @@ ghost use Rattle.gobpie_main.specs.Batch.{AnswersText, IsOfText};
 ghost use Rattle.gobpie_main.specs.Reading.{AsksFor};
 ghost use Rattle.gobpie_main.specs.Answer.{Completes, Spends, TellsText, Wrote, Said, usage_line, read_fault_line, memory_line, spent_line};
 
-use crate::report::{Report, report};
+use crate::report::{Report, report_on};
 use crate::status::Status;
 use crate::words::file_word;
 use c_parse::{LoneFault, lone_main};
@@ -111,7 +111,7 @@ fn analyse_program<O: Sink>(alloc: Global, program: &Program, out: &mut O) -> St
     ensures spent_said { result ≡ Status.Spent → Said (O.written out.old) (O.written out.new) (O.write_faults out.old) (O.write_faults out.new) spent_line }
     ensures memory_said { result ≡ Status.Memory → Said (O.written out.old) (O.written out.new) (O.write_faults out.old) (O.write_faults out.new) memory_line }
 {
-    match report(alloc, program) {
+    match report_on(alloc, program) {
         Ok(Report::Complete(bytes)) => match write_all(out, bytes.as_slice()) {
             Ok(()) => Status::Ok,
             Err(_) => Status::WriteFault,
@@ -131,5 +131,8 @@ fn analyse_program<O: Sink>(alloc: Global, program: &Program, out: &mut O) -> St
 fn say<O: Sink>(out: &mut O, line: &[u8])
     ensures { Said (O.written out.old) (O.written out.new) (O.write_faults out.old) (O.write_faults out.new) line.now }
 {
-    let _short = write_all(out, line);
+    match write_all(out, line) {
+        Ok(()) => {}
+        Err(_short) => {}
+    }
 }

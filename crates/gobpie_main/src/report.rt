@@ -19,7 +19,7 @@ pub enum Report {
 }
 
 /// Solves a program's table under the budget, and prints it. `Memory` is want of memory.
-pub fn report(alloc: Global, program: &Program) -> Result<Report, Memory>
+pub fn report_on(alloc: Global, program: &Program) -> Result<Report, Memory>
     requires formed { IsFormed program.now }
     requires built { HasBuiltActions program.now }
     ensures { IfOk result (λ r. IsReport program.now r) }

@@ -34,13 +34,12 @@ pub fn solve(
 {
     let mut trace = Seq::new(alloc);
     for _i in 0..BUDGET {
-        match dirty.first() {
-            None => break,
-            Some(u) => {
-                trace.push(u)?;
-                turn(alloc, program, marks, table, dirty, u)?;
-            }
-        }
+        let first = dirty.first();
+        let Some(u) = &first else {
+            break;
+        };
+        trace.push(*u)?;
+        turn(alloc, program, marks, table, dirty, *u)?;
     }
     Ok(trace)
 }

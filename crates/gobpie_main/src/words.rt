@@ -1,5 +1,5 @@
 //! The reading of the program's words.
-ghost use Rattle.std.specs.Prelude.{◌≡◌, ℕ, List, None, IfSome};
+ghost use Rattle.std.specs.Prelude.{◌≡◌, ◌↔◌, ℕ, List, None, IfSome, IsTrue, codes};
 ghost use Rattle.gobpie_main.specs.Reading.{AsksFor, IsFileWord};
 
 use gob_tree::Text;
@@ -10,9 +10,18 @@ pub fn file_word(words: &[Text]) -> Option<&str>
     ensures none { (file : List ℕ) → result ≡ None → AsksFor words.now file → ⊥ }
 {
     match words {
-        [command, file] if command.as_bytes() == b"analyse" => as_file(file),
+        [command, file] if is_analyse(command) => {
+            let name = as_file(file)?;
+            Some(name)
+        }
         _ => None,
     }
+}
+
+fn is_analyse(word: &Text) -> bool
+    ensures { IsTrue result ↔ (word.now ≡ codes "analyse") }
+{
+    word.as_bytes() == b"analyse".as_slice()
 }
 
 /// The word as a file's name: UTF-8, not empty, and without a `-` in front.

@@ -1,0 +1,3 @@
+pub mod Examples
+mod Order
+mod Readings

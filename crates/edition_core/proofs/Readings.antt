@@ -1,0 +1,73 @@
+-- What is read from the lists that a table and a program have.
+use Rattle.std.proofs.Common.{◌≡◌, ℕ, suc, ◌+◌, ◌<◌, List, [], ◌∷◌, ◌++◌, length, map, get_or, take, drop, drop-cons, Some, All, slice_get, refl, sym, append_assoc, ap, ◌∙◌, subst, add-one, true, true≢false}
+use Rattle.std.proofs.Math.Seq.{take-suc}
+use Rattle.std.proofs.lemmas.List.Elements.{All-get_or}
+use Rattle.std.proofs.lemmas.Option.{get_or_from_slice_get, slice_get_within, slice_get_read}
+use Rattle.std.proofs.lemmas.List.{get_or-map}
+use Rattle.gob_tree.specs.declared.graph.FuncGraph.{FuncGraph}
+use Rattle.gob_tree.specs.declared.unit.Slot.{Slot}
+use Rattle.interval_dom.specs.Bounds.{Bounds}
+use Rattle.state_dom.specs.StateValue.{StateValue, Bottom, Reached, slots_of, is_reached}
+use Rattle.constraint_sys.specs.Sound.{FitsEach, HasShape}
+use Rattle.edition_core.specs.Labels.{labels_of, labels_after, label_of, count_of_name}
+use Rattle.edition_core.specs.Printed.{slots_text, slot_text}
+
+module _ {X : Type 0} where
+  pub All_at : (P : X → Type 0) (xs : List X) (i : ℕ) (x : X) → slice_get xs i ≡ Some x → All P xs → P x
+  All_at P xs i x is all =
+      subst P (get_or_from_slice_get xs i x x is) (All-get_or P xs i x (slice_get_within xs i x is) all)
+
+  pub drop_at : (xs : List X) (i : ℕ) (x : X) → slice_get xs i ≡ Some x → drop i xs ≡ x ∷ drop (i + 1) xs
+  drop_at xs i x is =
+      drop-cons xs i x (slice_get_within xs i x is) ∙ ap (λ (z : X). z ∷ drop (suc i) xs) (get_or_from_slice_get xs i x x is) ∙ ap (λ (n : ℕ). x ∷ drop n xs) (sym (add-one i))
+
+  pub take_at : (xs : List X) (i : ℕ) (x : X) → slice_get xs i ≡ Some x → take (i + 1) xs ≡ take i xs ++ x ∷ []
+  take_at xs i x is =
+      ap (λ (n : ℕ). take n xs) (add-one i) ∙ take-suc xs i x (slice_get_within xs i x is) ∙ ap (λ (z : X). take i xs ++ z ∷ []) (get_or_from_slice_get xs i x x is)
+
+  -- what is added to a list goes from what is left to what is there
+  pub grown : (now then piece left rest whole : List X) → then ≡ now ++ piece → left ≡ piece ++ rest → now ++ left ≡ whole → then ++ rest ≡ whole
+  grown now then piece left rest whole added begins all =
+      ap (λ (l : List X). l ++ rest) added ∙ append_assoc now piece rest ∙ ap (λ (l : List X). now ++ l) (sym begins) ∙ all
+
+-- the text of slots begins with that of the first
+pub slots_text_next : (labels : List (List ℕ)) (xs : List Bounds) (i : ℕ) (label : List ℕ) (x : Bounds) → slice_get labels i ≡ Some label → slice_get xs i ≡ Some x
+    → slots_text (drop i labels) (drop i xs) ≡ slot_text label x ++ slots_text (drop (i + 1) labels) (drop (i + 1) xs)
+slots_text_next labels xs i label x first second =
+    ap (λ (l : List (List ℕ)). slots_text l (drop i xs)) (drop_at labels i label first)
+    ∙ ap (λ (l : List Bounds). slots_text (label ∷ drop (i + 1) labels) l) (drop_at xs i x second)
+
+-- the labels from a slot on begin with its own
+pub labels_after_next : (named : List Slot) (i : ℕ) (slot : Slot) → i < length named → slot ≡ get_or named i slot
+    → labels_after (take i named) (drop i named) ≡ label_of slot.name (count_of_name (take i named) slot.name) ∷ labels_after (take (i + 1) named) (drop (i + 1) named)
+labels_after_next named i slot within is =
+    let at : slice_get named i ≡ Some slot = slice_get_read named (length named) i slot refl within is in
+    ap (λ (rest : List Slot). labels_after (take i named) rest) (drop_at named i slot at)
+    ∙ ap (λ (before : List Slot). label_of slot.name (count_of_name (take i named) slot.name) ∷ labels_after before (drop (i + 1) named)) (sym (take_at named i slot at))
+
+length-labels_after : (before rest : List Slot) → length (labels_after before rest) ≡ length rest
+length-labels_after before [] = refl
+length-labels_after before (slot ∷ rest) = ap suc (length-labels_after (before ++ slot ∷ []) rest)
+
+pub length-labels_of : (slots : List Slot) → length (labels_of slots) ≡ length slots
+length-labels_of [] = refl
+length-labels_of (returned ∷ named) = ap suc (length-labels_after [] named)
+
+pub fits_each_length : (slots : List Slot) (xs : List Bounds) → FitsEach slots xs → length xs ≡ length slots
+fits_each_length [] [] fits = refl
+fits_each_length [] (x ∷ xs) fits = absurd fits
+fits_each_length (slot ∷ slots) [] fits = absurd fits
+fits_each_length (slot ∷ slots) (x ∷ xs) fits = ap suc (fits_each_length slots xs fits.1)
+
+-- a state that isn't Bottom has an interval for each slot
+pub shape_length : (slots : List Slot) (s : StateValue) → is_reached s ≡ true → HasShape slots s → length (slots_of s) ≡ length slots
+shape_length slots (Bottom room) reached shape = absurd (true≢false (sym reached))
+shape_length slots (Reached state locks) reached shape = fits_each_length slots state shape
+
+-- the labels of a function among those of all
+pub labels_at : (funcs : List FuncGraph) (all : List (List (List ℕ))) (i : ℕ) (f : FuncGraph) (labels : List (List ℕ))
+    → all ≡ map (λ (g : FuncGraph). labels_of g.slots) funcs → slice_get funcs i ≡ Some f → labels ≡ get_or all i labels → labels ≡ labels_of f.slots
+labels_at funcs all i f labels same is read =
+    read ∙ ap (λ (l : List (List (List ℕ))). get_or l i labels) same
+    ∙ get_or-map (λ (g : FuncGraph). labels_of g.slots) funcs i f labels (slice_get_within funcs i f is)
+    ∙ ap (λ (g : FuncGraph). labels_of g.slots) (get_or_from_slice_get funcs i f f is)

@@ -1,0 +1,12 @@
+//! What an edition shows: the printed table of a program.
+#![tactic(auto)]
+
+mod labels;
+mod pieces;
+mod printed;
+
+pub use labels::slot_labels;
+pub use printed::print_table;
+
+#[cfg(test)]
+mod tests;
