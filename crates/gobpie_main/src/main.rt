@@ -5,15 +5,16 @@ mod batch;
 mod report;
 mod solve;
 mod status;
+#[cfg(test)]
+mod tests;
 mod words;
 
 use gob_outside::{StdFiles, StdOut};
 use gob_tree::Text;
 use status::Status;
 use std::alloc::{AllocError, Global};
-use std::env;
-use std::io;
 use std::process::ExitCode;
+use std::{env, io};
 
 fn main(rt: HostRuntime) -> ExitCode {
     ExitCode::from(status_of(&rt).number())
