@@ -5,7 +5,7 @@
 mod bytes;
 mod fault;
 //mod framer;
-//mod header;
+mod header;
 mod line;
 mod memory;
 //mod scan;
