@@ -1,5 +1,6 @@
 -- What the lines of a header say, one after another.
-use Rattle.std.specs.Prelude.{◌≡◌, ℕ, ◌+◌, ◌-◌, Bool, ◌==◌, nat_le, if◌then◌else◌, List, [], ◌∷◌, length, take, Option, Some, None, fold}
+use Rattle.std.specs.Prelude.{◌≡◌, ℕ, ◌+◌, ◌-◌, Bool, false, ◌==◌, nat_le, if◌then◌else◌, List, [], ◌∷◌, length, take, Option, Some, None, fold}
+use Rattle.std.specs.List.{list_any}
 use Rattle.dap_frame.specs.declared.header.TheConstants.{MAX_HEADER, MAX_CONTENT}
 use Rattle.dap_frame.specs.declared.line.Line.{Line}
 use Rattle.dap_frame.specs.declared.line.Line.TheVariants.{Empty, Length, Other, Malformed}
@@ -10,6 +11,10 @@ use Rattle.dap_frame.specs.declared.header.HeaderFault.TheVariants.{Bad, TooLong
 use Rattle.dap_frame.specs.declared.header.Header.{Header}
 use Rattle.dap_frame.specs.declared.header.Header.TheVariants.{Open, Ended, Faulty}
 use Rattle.dap_frame.specs.Line.{line_of}
+
+-- no LF stands in the bytes
+abbrev pub HasNoLf : List ℕ → Type 0
+HasNoLf bytes = list_any (λ b. b == 10) bytes ≡ false
 
 -- the whole lines of the bytes, each without the LF that ends it; what follows the last LF is no line yet
 abbrev pub longer_by : ℕ → List (List ℕ) → List (List ℕ)
