@@ -3,13 +3,13 @@ use Rattle.std.proofs.Common.{◌≡◌, ℕ, ◌+◌, ◌-◌, ◌<◌, ◌≤�
 use Rattle.std.specs.Prelude.{◌==◌, Option, Some, None, position, ◌||◌, nat_lt}
 use Rattle.std.specs.List.{list_any, fold, position_or_len}
 use Rattle.std.proofs.lemmas.Bool.{or_parts, or_from, cond-false, cases_Bool, ltb-false, eqb-true}
-use Rattle.std.proofs.lemmas.List.{length-take-le, get_or-take, take-append-drop, drop_more}
+use Rattle.std.proofs.lemmas.List.{length-take, length-take-le, take-take, get_or-take, take-append-drop, drop_more}
 use Rattle.std.proofs.lemmas.List.Folds.{list_any_none}
 use Rattle.std.proofs.lemmas.List.Quantifiers.{position-Some}
 use Rattle.std.proofs.lemmas.List.Sums.{fails_before_first}
 use Rattle.dap_frame.specs.Header.{HasNoLf, lines_of, longer_by}
 
-abbrev is_lf : ℕ → Bool
+abbrev pub is_lf : ℕ → Bool
 is_lf b = b == 10
 
 -- A line ends at its first LF.
@@ -28,24 +28,40 @@ lines_of-part (b ∷ text) none =
     cond-false (b == 10) ([] ∷ lines_of text) (longer_by b (lines_of text)) parts.0
     ∙ ap (longer_by b) (lines_of-part text parts.1)
 
--- bytes whose first LF stands at i are a line, its LF and the rest
+-- the first LF of the bytes stands at i
 pub record IsLineAt (bytes : List ℕ) (i : ℕ) : Type 0 where
   pub within : i < length bytes
   pub none_before : HasNoLf (take i bytes)
-  pub cut : bytes ≡ take i bytes ++ 10 ∷ drop (i + 1) bytes
+  pub here : get_or bytes i 0 ≡ 10
 
 pub line_at : (bytes : List ℕ) (i : ℕ) → position is_lf bytes ≡ Some i → IsLineAt bytes i
 line_at bytes i at =
     let found = position-Some is_lf bytes i 0 at in
-    let is_here : get_or bytes i 0 ≡ 10 = eqb-true (get_or bytes i 0) 10 found.1 in
     let long : length (take i bytes) ≡ i = length-take-le i bytes (omega arith) in
     record {
       within = found.0;
       none_before = list_any_none is_lf (take i bytes) (λ k d below.
         let before : k < i = omega arith in
         ap is_lf (get_or-take i bytes k d before) ∙ (position-Some is_lf bytes i d at).2 k before);
-      cut = sym (take-append-drop i bytes) ∙ ap (λ (xs : List ℕ). take i bytes ++ xs) (drop_more bytes i 0 found.0 ∙ ap (λ (b : ℕ). b ∷ drop (i + 1) bytes) is_here);
+      here = eqb-true (get_or bytes i 0) 10 found.1;
     }
+
+-- The same of bytes that go on behind the first w.
+pub line_at-take : (w : ℕ) (bytes : List ℕ) (i : ℕ) → IsLineAt (take w bytes) i → IsLineAt bytes i
+line_at-take w bytes i line =
+    let e = length-take w bytes in
+    let below : i < w = omega (arith, line.within) in
+    record {
+      within = omega (arith, line.within);
+      none_before = ap (list_any is_lf) (sym (take-take i w bytes (omega arith))) ∙ line.none_before;
+      here = sym (get_or-take w bytes i 0 below) ∙ line.here;
+    }
+
+-- A line, its LF and the rest are the bytes.
+pub line_cut : (bytes : List ℕ) (i : ℕ) → IsLineAt bytes i → take i bytes ++ 10 ∷ drop (i + 1) bytes ≡ bytes
+line_cut bytes i line =
+    sym (ap (λ (xs : List ℕ). take i bytes ++ xs) (drop_more bytes i 0 line.within ∙ ap (λ (b : ℕ). b ∷ drop (i + 1) bytes) line.here))
+    ∙ take-append-drop i bytes
 
 pub no_line : (bytes : List ℕ) → position is_lf bytes ≡ None → HasNoLf bytes
 no_line bytes none =

@@ -1,8 +1,9 @@
 -- Reading a stream part by part.
 use Rattle.std.proofs.Common.{◌≡◌, ℕ, suc, ◌+◌, ◌-◌, ◌<◌, ◌≤◌, Bool, true, false, cond, inl, inr, ◌⊎◌, List, [], ◌∷◌, ◌++◌, length, take, drop, refl, sym, ◌∙◌, ap, subst, arith, append_assoc, length-append, add-zero}
 use Rattle.std.specs.Prelude.{nat_le, nat_lt, ◌==◌, if◌then◌else◌, fold}
+use Rattle.std.specs.List.{list_any}
 use Rattle.std.proofs.lemmas.Bool.{cases_Bool, cond-true, cond-false, le-ltb, lt-ltb, le-leb, lt-leb, leb-true, leb-false}
-use Rattle.std.proofs.lemmas.List.{drop-drop, drop_at, take_at}
+use Rattle.std.proofs.lemmas.List.{take-append-le, take_all, drop-drop, drop_at, take_at}
 use Rattle.dap_frame.specs.declared.header.TheConstants.{MAX_HEADER, MAX_CONTENT}
 use Rattle.dap_frame.specs.declared.header.Head.{Head}
 use Rattle.dap_frame.specs.declared.header.HeaderFault.{HeaderFault}
@@ -10,7 +11,7 @@ use Rattle.dap_frame.specs.declared.header.HeaderFault.TheVariants.{Bad, TooLong
 use Rattle.dap_frame.specs.declared.header.Header.{Header}
 use Rattle.dap_frame.specs.declared.header.Header.TheVariants.{Open, Ended, Faulty}
 use Rattle.dap_frame.specs.Header.{HasNoLf, lines_of, size_of, judged, nothing_said, after_line, header_on}
-use Rattle.dap_frame.specs.Stream.{Next, message, unfinished, fault, content_at, next_by, next_from, told, End, whole, inside, failed, Ends, Reads, Passes}
+use Rattle.dap_frame.specs.Stream.{Next, message, unfinished, fault, content_at, next_by, next_from, told, End, failed, end_after, Ends, Reads, IsUnfinished, end_within, Passes}
 use Rattle.dap_frame.proofs.Headers.{HasSize, judged_size, fold-fault, fold-ended, fold_grows, header_on-line}
 use Rattle.dap_frame.proofs.Lines.{lines_of-part}
 
@@ -22,7 +23,7 @@ later k (fault f) = fault f
 
 ends_later : (start m n k : ℕ) (next : Next) (end : End) → m ≡ n → Ends start n next end → Ends start m (later k next) end
 ends_later start m n k (message content size) end e ends = ends
-ends_later start m n k unfinished end e ends = ends ∙ ap (λ (i : ℕ). cond (i == 0) whole inside) (sym e)
+ends_later start m n k unfinished end e ends = ends ∙ ap end_after (sym e)
 ends_later start m n k (fault f) end e ends = ends
 
 -- Reading from k bytes earlier, in the same header.
@@ -114,3 +115,101 @@ reads-line start head text tail contents end none within reads =
         reads_fault start f (Open head) next (text ++ 10 ∷ tail) tail contents end
           (ap (next_by head.size (text ++ 10 ∷ tail)) (same ∙ stays)) (ap (next_by (size_of next) tail) stays) reads
     ]
+
+-- Nothing read leads nowhere.
+pub passes_none : (h : Header) (bytes : List ℕ) → Passes h bytes [] 0 h bytes
+passes_none h bytes = record {
+  on = λ start at more contents end e reads.
+    let here : at ≡ start = omega arith in subst (λ (n : ℕ). Reads n h (bytes ++ more) contents end) here reads;
+}
+
+-- One way after another.
+pub passes_then : (h g k : Header) (xs ys zs : List ℕ) (ms ns : List (List ℕ)) (m n : ℕ) →
+    Passes h xs ms m g ys → Passes g ys ns n k zs → Passes h xs (ms ++ ns) (m + n) k zs
+passes_then h g k xs ys zs ms ns m n first second = record {
+  on = λ start at more contents end e reads.
+    let on_from : at ≡ start + m + n = omega arith in
+    let tail : Reads (start + m) g (ys ++ more) (ns ++ contents) end = second.on (start + m) at more contents end on_from reads in
+    subst (λ (cs : List (List ℕ)). Reads start h (xs ++ more) cs end) (sym (append_assoc ms ns contents))
+      (first.on start (start + m) more (ns ++ contents) end refl tail);
+}
+
+-- A whole line.
+pub passes_line : (head : Head) (text rest : List ℕ) → HasNoLf text → head.size + length text < MAX_HEADER →
+    Passes (Open head) (text ++ 10 ∷ rest) [] 0 (judged head text) rest
+passes_line head text rest none within = record {
+  on = λ start at more contents end e reads.
+    let here : at ≡ start = omega arith in
+    subst (λ (bytes : List ℕ). Reads start (Open head) bytes contents end) (sym (append_assoc text (10 ∷ rest) more))
+      (reads-line start head text (rest ++ more) contents end none within
+        (subst (λ (n : ℕ). Reads n (judged head text) (rest ++ more) contents end) here reads));
+}
+
+header_on-ended : (size n : ℕ) (bytes : List ℕ) → header_on (Ended size n) bytes ≡ Ended size n
+header_on-ended size n bytes = fold-ended size n (lines_of (take (MAX_HEADER - size) bytes))
+
+next_from-ended : (size n : ℕ) (bytes : List ℕ) → next_from (Ended size n) bytes ≡ content_at 0 n bytes
+next_from-ended size n bytes =
+    ap (next_by size bytes) (header_on-ended size n bytes) ∙ (let e : size - size ≡ 0 = omega arith in ap (λ (k : ℕ). content_at k n bytes) e)
+
+-- A whole content.
+pub passes_content : (size n : ℕ) (content rest : List ℕ) → length content ≡ n →
+    Passes (Ended size n) (content ++ rest) (content ∷ []) (size + n) (Open nothing_said) rest
+passes_content size n content rest long = record {
+  on = λ start at more contents end e reads.
+    let bytes : List ℕ = (content ++ rest) ++ more in
+    let cut : bytes ≡ content ++ (rest ++ more) = append_assoc content rest more in
+    let all : length bytes ≡ n + length (rest ++ more) = ap length cut ∙ length-append content (rest ++ more) ∙ ap (λ (k : ℕ). k + length (rest ++ more)) long in
+    let place : at ≡ start + size + n = omega arith in
+    let front : take n bytes ≡ content = ap (take n) cut ∙ take_at content (rest ++ more) n long in
+    let behind : drop n bytes ≡ rest ++ more = ap (drop n) cut ∙ drop_at content (rest ++ more) n long in
+    let next : next_from (Ended size n) bytes ≡ message content n =
+      next_from-ended size n bytes ∙ content_whole 0 n bytes (omega arith)
+      ∙ ap (λ (c : List ℕ). message c (0 + n)) front ∙ (let k : 0 + n ≡ n = omega arith in ap (message content) k) in
+    (n, next, subst (λ (xs : List ℕ). Reads (start + size + n) (Open nothing_said) xs contents end) (sym behind)
+      (subst (λ (k : ℕ). Reads k (Open nothing_said) (rest ++ more) contents end) place reads));
+}
+
+next_from-faulty : (f : HeaderFault) (bytes : List ℕ) → next_from (Faulty f) bytes ≡ fault f
+next_from-faulty f bytes = ap (next_by 0 bytes) (fold-fault f (lines_of (take (MAX_HEADER - 0) bytes)))
+
+-- Behind a fault nothing is read.
+pub passes_fault : (f : HeaderFault) (xs ys : List ℕ) → Passes (Faulty f) xs [] 0 (Faulty f) ys
+passes_fault f xs ys = record {
+  on = λ start at more contents end e reads.
+    let here : at ≡ start = omega arith in
+    reads_fault start f (Faulty f) (Faulty f) (xs ++ more) (ys ++ more) contents end (next_from-faulty f (xs ++ more)) (next_from-faulty f (ys ++ more))
+      (subst (λ (n : ℕ). Reads n (Faulty f) (ys ++ more) contents end) here reads);
+}
+
+-- Without an LF in what is left of the header's first 4,096 bytes it gets no further.
+header_on-part : (head : Head) (bytes : List ℕ) → HasNoLf (take (MAX_HEADER - head.size) bytes) → header_on (Open head) bytes ≡ Open head
+header_on-part head bytes none = ap (fold after_line (Open head)) (lines_of-part (take (MAX_HEADER - head.size) bytes) none)
+
+-- Where these bytes are there, that is a fault.
+pub passes_full : (head : Head) (bytes : List ℕ) → HasNoLf (take (MAX_HEADER - head.size) bytes) → MAX_HEADER ≤ head.size + length bytes →
+    Passes (Open head) bytes [] 0 (Faulty (Bad 0)) []
+passes_full head bytes none full = record {
+  on = λ start at more contents end e reads.
+    let here : at ≡ start = omega arith in
+    let same : take (MAX_HEADER - head.size) (bytes ++ more) ≡ take (MAX_HEADER - head.size) bytes = take-append-le (MAX_HEADER - head.size) bytes more (omega arith) in
+    let still : HasNoLf (take (MAX_HEADER - head.size) (bytes ++ more)) = ap (list_any (λ b. b == 10)) same ∙ none in
+    let long : MAX_HEADER ≤ head.size + length (bytes ++ more) = omega (arith, length-append bytes more) in
+    let next : next_from (Open head) (bytes ++ more) ≡ fault (Bad 0) =
+      ap (next_by head.size (bytes ++ more)) (header_on-part head (bytes ++ more) still)
+      ∙ cond-false (nat_lt (head.size + length (bytes ++ more)) MAX_HEADER) unfinished (fault (Bad 0)) (le-ltb (head.size + length (bytes ++ more)) MAX_HEADER long) in
+    reads_fault start (Bad 0) (Open head) (Faulty (Bad 0)) (bytes ++ more) more contents end next (next_from-faulty (Bad 0) more)
+      (subst (λ (n : ℕ). Reads n (Faulty (Bad 0)) more contents end) here reads);
+}
+
+-- What a framer keeps is less than a whole message.
+next_from-unfinished : (h : Header) (rest : List ℕ) → IsUnfinished h rest → next_from h rest ≡ unfinished
+next_from-unfinished (Open head) rest part =
+    ap (next_by head.size rest) (header_on-part head rest (ap (list_any (λ b. b == 10)) (take_all (MAX_HEADER - head.size) rest (omega arith)) ∙ part.no_lf))
+    ∙ cond-true (nat_lt (head.size + length rest) MAX_HEADER) unfinished (fault (Bad 0)) (lt-ltb (head.size + length rest) MAX_HEADER part.short)
+next_from-unfinished (Ended size n) rest part = next_from-ended size n rest ∙ content_part 0 n rest (omega arith)
+next_from-unfinished (Faulty f) rest part = absurd part
+
+pub reads_unfinished : (start : ℕ) (h : Header) (rest : List ℕ) → IsUnfinished h rest → Reads start h rest [] (end_within h rest)
+reads_unfinished start h rest part =
+    subst (λ (n : Next). Ends start (size_of h + length rest) n (end_within h rest)) (sym (next_from-unfinished h rest part)) refl

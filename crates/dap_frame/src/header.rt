@@ -1,7 +1,7 @@
 ghost use Rattle.std.specs.Prelude.{◌≡◌, ℕ, ◌+◌, ◌-◌, ◌^◌, ◌<◌, ◌≤◌, List, Some, None, length, take, drop, ◌++◌};
 ghost use Rattle.dap_frame.specs.Line.{line_of};
 ghost use Rattle.dap_frame.specs.Header.{nothing_said, ended, judged};
-ghost use Rattle.dap_frame.specs.Stream.{place_in, told};
+ghost use Rattle.dap_frame.specs.Stream.{told};
 
 use crate::fault::FrameFault;
 use crate::line::{Line, line_of};
@@ -15,7 +15,7 @@ pub const MAX_CONTENT: u64 = 1_048_576;
 /// A line that gives the length: its place in the header, and the number of bytes.
 #[derive(Clone, Copy, Debug, PartialEq, Eq)]
 pub struct LengthLine {
-    pub at: usize,
+    pub at: u32,
     pub n: u64,
 }
 
@@ -30,8 +30,8 @@ pub struct Head {
 /// What is wrong with a header, at a place that counts from the header's first byte.
 #[derive(Clone, Copy, Debug, PartialEq, Eq)]
 pub enum HeaderFault {
-    Bad { at: usize },
-    TooLong { at: usize, n: u64 },
+    Bad { at: u32 },
+    TooLong { at: u32, n: u64 },
 }
 
 /// How far a header got.
@@ -47,14 +47,14 @@ pub enum Header {
 impl HeaderFault {
     /// The fault, in a header that begins at the place `start` of the stream.
     pub fn told(self, start: u64) -> FrameFault
-        ensures { start + place_in self < 2 ^ 64 → result ≡ told start self }
+        ensures { start < 2 ^ 63 → result ≡ told start self }
     {
         match self {
             HeaderFault::Bad { at } => FrameFault::BadHeader {
-                at: start.wrapping_add(at as u64),
+                at: start.wrapping_add(u64::from(at)),
             },
             HeaderFault::TooLong { at, n } => FrameFault::TooLong {
-                at: start.wrapping_add(at as u64),
+                at: start.wrapping_add(u64::from(at)),
                 n,
             },
         }
@@ -80,12 +80,17 @@ impl Head {
         let size = self.size + line.len() + 1;
         match (line_of(line), self.length) {
             (Line::Malformed, _) | (Line::Length(_), Some(_)) | (Line::Empty, None) => {
-                Header::Faulty(HeaderFault::Bad { at: self.size })
+                Header::Faulty(HeaderFault::Bad {
+                    at: self.size as u32,
+                })
             }
             (Line::Other, length) => Header::Open(Head { size, length }),
             (Line::Length(n), None) => Header::Open(Head {
                 size,
-                length: Some(LengthLine { at: self.size, n }),
+                length: Some(LengthLine {
+                    at: self.size as u32,
+                    n,
+                }),
             }),
             (Line::Empty, Some(LengthLine { at, n })) => ended(size, at, n),
         }
@@ -93,7 +98,7 @@ impl Head {
 }
 
 /// The header at its empty line.
-fn ended(size: usize, at: usize, n: u64) -> Header
+fn ended(size: usize, at: u32, n: u64) -> Header
     ensures { result ≡ ended size at n }
 {
     if n <= MAX_CONTENT {

@@ -8,7 +8,7 @@ mod fault;
 mod header;
 mod line;
 mod memory;
-//mod scan;
+mod scan;
 //mod write;
 
 pub use fault::FrameFault;
