@@ -1,7 +1,7 @@
 -- A scan, step by step.
 use Rattle.std.proofs.Common.{◌≡◌, ℕ, suc, ◌+◌, ◌-◌, ◌<◌, ◌≤◌, Bool, true, false, cond, inl, inr, ◌⊎◌, List, [], ◌∷◌, ◌++◌, length, take, drop, refl, sym, ◌∙◌, ap, subst, arith, length-append}
 use Rattle.std.specs.Prelude.{◌==◌, Some, None, position, min, Result, Ok, Err, IfOk}
-use Rattle.std.proofs.lemmas.List.{drop-drop, length-drop, length-take-le, take_min, take_rest, take_all, take-append-drop}
+use Rattle.std.proofs.lemmas.List.{drop-drop, length-drop, length-take-le, take_min, take_rest, take_all, take-append-drop, append-nil}
 use Rattle.dap_frame.specs.declared.header.TheConstants.{MAX_HEADER}
 use Rattle.dap_frame.specs.declared.header.Head.{Head}
 use Rattle.dap_frame.specs.declared.header.Header.{Header}
@@ -10,9 +10,10 @@ use Rattle.dap_frame.specs.declared.header.HeaderFault.{HeaderFault}
 use Rattle.dap_frame.specs.declared.header.HeaderFault.TheVariants.{Bad}
 use Rattle.dap_frame.specs.declared.scan.Part.{Part}
 use Rattle.dap_frame.specs.declared.scan.Part.TheVariants.{Message, Unfinished}
+use Rattle.dap_frame.specs.declared.scan.Scan.{Scan}
 use Rattle.dap_frame.specs.Header.{HasNoLf, size_of, judged, nothing_said}
 use Rattle.dap_frame.specs.Stream.{Passes, Stops, IsLinePart}
-use Rattle.dap_frame.specs.Scan.{HasNoWholeLine, weight, HasRead, IsWhole, IsRest, IsPart, IsContentPart}
+use Rattle.dap_frame.specs.Scan.{HasNoWholeLine, weight, HasRead, IsWhole, IsRest, IsPart, IsContentPart, contents, HasScanned, IsScan}
 use Rattle.dap_frame.proofs.Headers.{HasSize, judged_size}
 use Rattle.dap_frame.proofs.Lines.{is_lf, IsLineAt, line_at, line_at-take, line_cut, no_line}
 use Rattle.dap_frame.proofs.Reading.{passes_none, passes_then, passes_line, passes_content, passes_full, passes_fault}
@@ -154,3 +155,41 @@ rest_from_fault header bytes f used rest read empty = record {
   sizes = let e : length rest ≡ 0 = ap length empty in omega arith;
   most = omega arith;
 }
+
+pub scanned_none : (header : Header) (bytes : List ℕ) → size_of header ≤ MAX_HEADER → HasScanned header bytes [] 0 header 0
+scanned_none header bytes most = record {
+  passes = passes_none header bytes;
+  within = omega arith;
+  sizes = omega arith;
+  most = most;
+}
+
+-- One more message.
+pub scanned_message : (header : Header) (bytes : List ℕ) (messages : List (List ℕ)) (start : ℕ) (reached : Header) (at : ℕ) (content : List ℕ) (size used : ℕ) →
+    HasScanned header bytes messages start reached at → IsWhole reached (drop at bytes) content size used →
+    HasScanned header bytes (messages ++ content ∷ []) (start + size) (Open nothing_said) (at + used)
+scanned_message header bytes messages start reached at content size used so_far whole =
+    let left : length (drop at bytes) ≡ length bytes - at = length-drop at bytes in
+    record {
+      passes = subst (λ (xs : List ℕ). Passes header bytes (messages ++ content ∷ []) (start + size) (Open nothing_said) xs) (drop-drop used at bytes)
+        (passes_then header reached (Open nothing_said) bytes (drop at bytes) (drop used (drop at bytes)) messages (content ∷ []) start size so_far.passes whole.passes);
+      within = omega (arith, so_far.within, whole.within);
+      sizes = omega (arith, so_far.sizes, whole.sizes);
+      most = omega arith;
+    }
+
+-- What comes after the last message.
+pub scan_from_rest : (header : Header) (bytes : List ℕ) (reached : Header) (at : ℕ) (scan : Scan) →
+    HasScanned header bytes (contents scan.messages.items) scan.start reached at → IsRest reached (drop at bytes) scan.header scan.rest.items →
+    IsScan header bytes scan
+scan_from_rest header bytes reached at scan so_far is =
+    let left : length (drop at bytes) ≡ length bytes - at = length-drop at bytes in
+    let same : scan.start + 0 ≡ scan.start = omega arith in
+    record {
+      passes = subst (λ (ms : List (List ℕ)). Passes header bytes ms scan.start scan.header scan.rest.items) (append-nil (contents scan.messages.items))
+        (subst (λ (k : ℕ). Passes header bytes (contents scan.messages.items ++ []) k scan.header scan.rest.items) same
+          (passes_then header reached scan.header bytes (drop at bytes) scan.rest.items (contents scan.messages.items) [] scan.start 0 so_far.passes is.passes));
+      stops = is.stops;
+      sizes = omega (arith, so_far.within, so_far.sizes, is.sizes);
+      most = is.most;
+    }

@@ -55,6 +55,13 @@ IsContentPart size n before bytes (Message content whole used) =
     (content.items ≡ take n bytes) × (n ≤ length bytes) × (whole ≡ size + n) × (used ≡ before + n)
 IsContentPart size n before bytes (Unfinished reached rest) = (reached ≡ Ended size n) × (rest.items ≡ bytes) × (length bytes < n)
 
+-- the messages end where the first `at` bytes do, and the next one begins `start` bytes after the first
+pub record HasScanned (header : Header) (bytes : List ℕ) (messages : List (List ℕ)) (start : ℕ) (reached : Header) (at : ℕ) : Type 0 where
+  pub passes : Passes header bytes messages start reached (drop at bytes)
+  pub within : at ≤ length bytes
+  pub sizes : start + size_of reached ≤ size_of header + at
+  pub most : size_of reached ≤ MAX_HEADER
+
 pub record IsScan (header : Header) (bytes : List ℕ) (scan : Scan) : Type 0 where
   pub passes : Passes header bytes (contents scan.messages.items) scan.start scan.header scan.rest.items
   pub stops : Stops scan.header scan.rest.items
