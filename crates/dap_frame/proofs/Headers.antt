@@ -1,7 +1,7 @@
 -- How far a header gets, line by line.
 use Rattle.std.proofs.Common.{◌≡◌, ℕ, suc, ◌+◌, ◌-◌, ◌<◌, ◌≤◌, Bool, true, false, cond, inl, inr, ◌⊎◌, List, [], ◌∷◌, ◌++◌, length, take, drop, refl, sym, ◌∙◌, ap, subst, arith}
 use Rattle.std.specs.Prelude.{Option, Some, None, nat_le, fold}
-use Rattle.std.proofs.lemmas.Bool.{cases_Bool}
+use Rattle.std.proofs.lemmas.Bool.{cases_Bool, cond-true, cond-false, leb-true}
 use Rattle.std.proofs.lemmas.List.Folds.{fold_stays}
 use Rattle.dap_frame.specs.declared.header.TheConstants.{MAX_HEADER, MAX_CONTENT}
 use Rattle.dap_frame.specs.declared.line.Line.{Line}
@@ -13,8 +13,8 @@ use Rattle.dap_frame.specs.declared.header.HeaderFault.TheVariants.{Bad, TooLong
 use Rattle.dap_frame.specs.declared.header.Header.{Header}
 use Rattle.dap_frame.specs.declared.header.Header.TheVariants.{Open, Ended, Faulty}
 use Rattle.dap_frame.specs.Line.{line_of}
-use Rattle.dap_frame.specs.Header.{HasNoLf, lines_of, size_of, ended, ended_by, given, judged_by, judged, after_line, header_on}
-use Rattle.dap_frame.proofs.Lines.{lines_of-line}
+use Rattle.dap_frame.specs.Header.{HasNoLf, lines_of, size_of, IsBounded, ended, ended_by, given, judged_by, judged, after_line, header_on}
+use Rattle.dap_frame.proofs.Lines.{lines_of-line, take-append}
 
 -- what became of a header after a line is a fault, or has `size` bytes
 abbrev pub HasSize : Header → ℕ → Type 0
@@ -44,6 +44,40 @@ judged_by_size head size Malformed = inr (Bad head.size, refl)
 pub judged_size : (head : Head) (line : List ℕ) → HasSize (judged head line) (head.size + length line + 1)
 judged_size head line = judged_by_size head (head.size + length line + 1) (line_of line)
 
+pub size_most : (header : Header) (size : ℕ) → HasSize header size → size_of header ≤ size
+size_most header size (inl e) = omega (arith, e)
+size_most header size (inr fault) = let e : size_of header ≡ 0 = ap size_of fault.1 in omega (arith, e)
+
+-- A header stays within its bounds.
+ended_bounded : (size at n : ℕ) → size ≤ MAX_HEADER → IsBounded (ended size at n)
+ended_bounded size at n fits =
+    elim (cases_Bool (nat_le n MAX_CONTENT)) [
+      inl short ↦ subst IsBounded (sym (cond-true (nat_le n MAX_CONTENT) (Ended size n) (Faulty (TooLong at n)) short)) (fits, leb-true n MAX_CONTENT short)
+    | inr long ↦ subst IsBounded (sym (cond-false (nat_le n MAX_CONTENT) (Ended size n) (Faulty (TooLong at n)) long)) tt
+    ]
+
+ended_by_bounded : (head : Head) (size : ℕ) (length : Option LengthLine) → size ≤ MAX_HEADER → IsBounded (ended_by head size length)
+ended_by_bounded head size None fits = tt
+ended_by_bounded head size (Some given) fits = ended_bounded size given.at given.n fits
+
+given_bounded : (head : Head) (size n : ℕ) (length : Option LengthLine) → size ≤ MAX_HEADER → IsBounded (given head size n length)
+given_bounded head size n None fits = fits
+given_bounded head size n (Some before) fits = tt
+
+judged_by_bounded : (head : Head) (size : ℕ) (line : Line) → size ≤ MAX_HEADER → IsBounded (judged_by head size line)
+judged_by_bounded head size Empty fits = ended_by_bounded head size head.length fits
+judged_by_bounded head size (Length n) fits = given_bounded head size n head.length fits
+judged_by_bounded head size Other fits = fits
+judged_by_bounded head size Malformed fits = tt
+
+pub judged_bounded : (head : Head) (line : List ℕ) → head.size + length line < MAX_HEADER → IsBounded (judged head line)
+judged_bounded head line within = judged_by_bounded head (head.size + length line + 1) (line_of line) (omega arith)
+
+pub size_bounded : (header : Header) → IsBounded header → size_of header ≤ MAX_HEADER
+size_bounded (Open head) fits = fits
+size_bounded (Ended size n) fits = fits.0
+size_bounded (Faulty f) fits = omega arith
+
 -- What is decided stays so.
 pub fold-fault : (f : HeaderFault) (lines : List (List ℕ)) → fold after_line (Faulty f) lines ≡ Faulty f
 fold-fault f lines = fold_stays after_line (Faulty f) (λ line. refl) lines
@@ -64,11 +98,8 @@ fold_grows (Faulty f) (line ∷ lines) size n is = absurd (let e = fold-fault f 
 
 -- the first bytes of a line with its LF and what follows
 take-line : (text tail : List ℕ) (w : ℕ) → take (length text + (1 + w)) (text ++ 10 ∷ tail) ≡ text ++ 10 ∷ take w tail
-take-line [] tail w =
-    let e : 0 + (1 + w) ≡ suc w = omega arith in ap (λ (k : ℕ). take k (10 ∷ tail)) e
-take-line (b ∷ text) tail w =
-    let e : suc (length text) + (1 + w) ≡ suc (length text + (1 + w)) = omega arith in
-    ap (λ (k : ℕ). take k (b ∷ (text ++ 10 ∷ tail))) e ∙ ap (λ (xs : List ℕ). b ∷ xs) (take-line text tail w)
+take-line text tail w =
+    take-append text (10 ∷ tail) (1 + w) ∙ (let e : 1 + w ≡ suc w = omega arith in ap (λ (k : ℕ). text ++ take k (10 ∷ tail)) e)
 
 -- Once a line is whole, the header goes on from what the line made of it.
 pub header_on-line : (head : Head) (text tail : List ℕ) → HasNoLf text → head.size + length text < MAX_HEADER →

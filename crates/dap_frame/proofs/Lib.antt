@@ -2,3 +2,4 @@ pub mod Headers
 pub mod Lines
 pub mod Reading
 pub mod Scanning
+pub mod Advancing

@@ -1,10 +1,10 @@
 -- The whole lines of bytes.
-use Rattle.std.proofs.Common.{◌≡◌, ℕ, ◌+◌, ◌-◌, ◌<◌, ◌≤◌, Bool, true, false, cond, inl, inr, ◌⊎◌, List, [], ◌∷◌, ◌++◌, length, take, drop, get_or, refl, sym, ◌∙◌, ap, add-one, arith, append_assoc, length-append}
+use Rattle.std.proofs.Common.{◌≡◌, ℕ, suc, ◌+◌, ◌-◌, ◌<◌, ◌≤◌, Bool, true, false, cond, inl, inr, ◌⊎◌, List, [], ◌∷◌, ◌++◌, length, take, drop, get_or, refl, sym, ◌∙◌, ap, add-one, arith, append_assoc, length-append}
 use Rattle.std.specs.Prelude.{◌==◌, Option, Some, None, position, ◌||◌, nat_lt}
 use Rattle.std.specs.List.{list_any, fold, position_or_len}
 use Rattle.std.proofs.lemmas.Bool.{or_parts, or_from, cond-false, cases_Bool, ltb-false, eqb-true}
 use Rattle.std.proofs.lemmas.List.{length-take, length-take-le, take-take, get_or-take, take-append-drop, drop_more}
-use Rattle.std.proofs.lemmas.List.Folds.{list_any_none}
+use Rattle.std.proofs.lemmas.List.Folds.{list_any_none, list_any-append}
 use Rattle.std.proofs.lemmas.List.Quantifiers.{position-Some}
 use Rattle.std.proofs.lemmas.List.Sums.{fails_before_first}
 use Rattle.dap_frame.specs.Header.{HasNoLf, lines_of, longer_by}
@@ -27,6 +27,16 @@ lines_of-part (b ∷ text) none =
     let parts = or_parts (b == 10) (list_any is_lf text) none in
     cond-false (b == 10) ([] ∷ lines_of text) (longer_by b (lines_of text)) parts.0
     ∙ ap (longer_by b) (lines_of-part text parts.1)
+
+pub take-append : (xs ys : List ℕ) (k : ℕ) → take (length xs + k) (xs ++ ys) ≡ xs ++ take k ys
+take-append [] ys k = let e : 0 + k ≡ k = omega arith in ap (λ (i : ℕ). take i ys) e
+take-append (x ∷ xs) ys k =
+    let e : suc (length xs) + k ≡ suc (length xs + k) = omega arith in
+    ap (λ (i : ℕ). take i (x ∷ (xs ++ ys))) e ∙ ap (λ (zs : List ℕ). x ∷ zs) (take-append xs ys k)
+
+-- Bytes without an LF, one part behind the other.
+pub no_lf-append : (xs ys : List ℕ) → HasNoLf xs → HasNoLf ys → HasNoLf (xs ++ ys)
+no_lf-append xs ys here there = list_any-append is_lf xs ys ∙ or_from (list_any is_lf xs) (list_any is_lf ys) here there
 
 -- the first LF of the bytes stands at i
 pub record IsLineAt (bytes : List ℕ) (i : ℕ) : Type 0 where

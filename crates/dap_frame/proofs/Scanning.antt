@@ -11,14 +11,14 @@ use Rattle.dap_frame.specs.declared.header.HeaderFault.TheVariants.{Bad}
 use Rattle.dap_frame.specs.declared.scan.Part.{Part}
 use Rattle.dap_frame.specs.declared.scan.Part.TheVariants.{Message, Unfinished}
 use Rattle.dap_frame.specs.declared.scan.Scan.{Scan}
-use Rattle.dap_frame.specs.Header.{HasNoLf, size_of, judged, nothing_said}
+use Rattle.dap_frame.specs.Header.{HasNoLf, size_of, IsBounded, judged, nothing_said}
 use Rattle.dap_frame.specs.Stream.{Passes, Stops, IsLinePart}
-use Rattle.dap_frame.specs.Scan.{HasNoWholeLine, weight, HasRead, IsWhole, IsRest, IsPart, IsContentPart, contents, HasScanned, IsScan}
-use Rattle.dap_frame.proofs.Headers.{HasSize, judged_size}
+use Rattle.dap_frame.specs.Scan.{HasNoWholeLine, weight, HasRead, IsWhole, IsRest, IsPart, IsContentPart, contents, HasScanned, IsScan, LeadsTo}
+use Rattle.dap_frame.proofs.Headers.{size_most, judged_size, judged_bounded}
 use Rattle.dap_frame.proofs.Lines.{is_lf, IsLineAt, line_at, line_at-take, line_cut, no_line}
 use Rattle.dap_frame.proofs.Reading.{passes_none, passes_then, passes_line, passes_content, passes_full, passes_fault}
 
-pub read_none : (header : Header) (bytes : List ℕ) → size_of header ≤ MAX_HEADER → HasRead header bytes header 0
+pub read_none : (header : Header) (bytes : List ℕ) → IsBounded header → HasRead header bytes header 0
 read_none header bytes most = record {
   passes = passes_none header bytes;
   within = omega arith;
@@ -31,10 +31,6 @@ weight_most : (header : Header) → weight header ≤ 1
 weight_most (Open head) = omega arith
 weight_most (Ended size n) = omega arith
 weight_most (Faulty f) = omega arith
-
-size_most : (header : Header) (size : ℕ) → HasSize header size → size_of header ≤ size
-size_most header size (inl e) = omega (arith, e)
-size_most header size (inr fault) = let e : size_of header ≡ 0 = ap size_of fault.1 in omega (arith, e)
 
 -- One more line, found in the header's first 4,096 bytes.
 pub read_line : (header : Header) (bytes : List ℕ) (head : Head) (at end : ℕ) → HasRead header bytes (Open head) at →
@@ -60,7 +56,7 @@ read_line header bytes head at end so_far found =
       passes = passes_then header (Open head) (judged head text) bytes rest (drop (at + end + 1) bytes) [] [] 0 0 so_far.passes step;
       within = omega (arith, line.within, so_far.within);
       sizes = omega (arith, so_far.sizes);
-      most = omega arith;
+      most = judged_bounded head text (omega arith);
       progress = omega (arith, weight_most (judged head text));
     }
 
@@ -116,7 +112,7 @@ part_from_content header bytes size n used (Unfinished reached rest) read is =
         let size_is : size_of reached ≡ size = ap size_of is.0 in
         let length_is : length rest.items ≡ length (drop used bytes) = ap length is.1 in
         omega (arith, read.sizes, read.within);
-      most = let size_is : size_of reached ≡ size = ap size_of is.0 in omega (arith, read.most);
+      most = subst IsBounded (sym is.0) read.most;
     }
 
 -- No line ends in the header's first 4,096 bytes.
@@ -128,7 +124,7 @@ rest_from_full header bytes head used rest read none full empty = record {
     (passes_then header (Open head) (Faulty (Bad 0)) bytes (drop used bytes) [] [] [] 0 0 read.passes (passes_full head (drop used bytes) none full));
   stops = tt;
   sizes = let e : length rest ≡ 0 = ap length empty in omega arith;
-  most = omega arith;
+  most = tt;
 }
 
 pub rest_from_part : (header : Header) (bytes : List ℕ) (head : Head) (used : ℕ) (rest : List ℕ) → HasRead header bytes (Open head) used →
@@ -153,10 +149,10 @@ rest_from_fault header bytes f used rest read empty = record {
   passes = passes_then header (Faulty f) (Faulty f) bytes (drop used bytes) rest [] [] 0 0 read.passes (passes_fault f (drop used bytes) rest);
   stops = tt;
   sizes = let e : length rest ≡ 0 = ap length empty in omega arith;
-  most = omega arith;
+  most = tt;
 }
 
-pub scanned_none : (header : Header) (bytes : List ℕ) → size_of header ≤ MAX_HEADER → HasScanned header bytes [] 0 header 0
+pub scanned_none : (header : Header) (bytes : List ℕ) → IsBounded header → HasScanned header bytes [] 0 header 0
 scanned_none header bytes most = record {
   passes = passes_none header bytes;
   within = omega arith;

@@ -1,5 +1,5 @@
 -- What the lines of a header say, one after another.
-use Rattle.std.specs.Prelude.{◌≡◌, ℕ, ◌+◌, ◌-◌, Bool, false, ◌==◌, nat_le, if◌then◌else◌, List, [], ◌∷◌, length, take, Option, Some, None, fold}
+use Rattle.std.specs.Prelude.{◌≡◌, ℕ, ◌+◌, ◌-◌, ◌≤◌, Bool, false, ◌==◌, nat_le, if◌then◌else◌, List, [], ◌∷◌, length, take, Option, Some, None, fold}
 use Rattle.std.specs.List.{list_any}
 use Rattle.dap_frame.specs.declared.header.TheConstants.{MAX_HEADER, MAX_CONTENT}
 use Rattle.dap_frame.specs.declared.line.Line.{Line}
@@ -34,6 +34,11 @@ abbrev pub size_of : Header → ℕ
 size_of (Open head) = head.size
 size_of (Ended size n) = size
 size_of (Faulty fault) = 0
+
+abbrev pub IsBounded : Header → Type 0
+IsBounded (Open head) = head.size ≤ MAX_HEADER
+IsBounded (Ended size n) = (size ≤ MAX_HEADER) × (n ≤ MAX_CONTENT)
+IsBounded (Faulty fault) = Unit {0}
 
 -- at the empty line, by the length that line `at` gave
 abbrev pub ended : ℕ → ℕ → ℕ → Header

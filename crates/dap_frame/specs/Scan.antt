@@ -7,7 +7,7 @@ use Rattle.dap_frame.specs.declared.header.Header.TheVariants.{Open, Ended, Faul
 use Rattle.dap_frame.specs.declared.scan.Part.{Part}
 use Rattle.dap_frame.specs.declared.scan.Part.TheVariants.{Message, Unfinished}
 use Rattle.dap_frame.specs.declared.scan.Scan.{Scan}
-use Rattle.dap_frame.specs.Header.{HasNoLf, nothing_said, size_of}
+use Rattle.dap_frame.specs.Header.{HasNoLf, nothing_said, size_of, IsBounded}
 use Rattle.dap_frame.specs.Stream.{Passes, Stops}
 
 abbrev pub contents : List (Vec ℕ) → List (List ℕ)
@@ -30,7 +30,7 @@ pub record HasRead (header : Header) (bytes : List ℕ) (reached : Header) (at :
   pub passes : Passes header bytes [] 0 reached (drop at bytes)
   pub within : at ≤ length bytes
   pub sizes : size_of reached ≤ size_of header + at
-  pub most : size_of reached ≤ MAX_HEADER
+  pub most : IsBounded reached
   pub progress : weight reached ≤ weight header + at
 
 pub record IsWhole (header : Header) (bytes content : List ℕ) (size used : ℕ) : Type 0 where
@@ -43,7 +43,7 @@ pub record IsRest (header : Header) (bytes : List ℕ) (reached : Header) (rest 
   pub passes : Passes header bytes [] 0 reached rest
   pub stops : Stops reached rest
   pub sizes : size_of reached + length rest ≤ size_of header + length bytes
-  pub most : size_of reached ≤ MAX_HEADER
+  pub most : IsBounded reached
 
 abbrev pub IsPart : Header → List ℕ → Part → Type 0
 IsPart header bytes (Message content size used) = IsWhole header bytes content.items size used
@@ -60,10 +60,14 @@ pub record HasScanned (header : Header) (bytes : List ℕ) (messages : List (Lis
   pub passes : Passes header bytes messages start reached (drop at bytes)
   pub within : at ≤ length bytes
   pub sizes : start + size_of reached ≤ size_of header + at
-  pub most : size_of reached ≤ MAX_HEADER
+  pub most : IsBounded reached
 
-pub record IsScan (header : Header) (bytes : List ℕ) (scan : Scan) : Type 0 where
-  pub passes : Passes header bytes (contents scan.messages.items) scan.start scan.header scan.rest.items
+-- the bytes are these messages, and then what the scan says
+pub record LeadsTo (header : Header) (bytes : List ℕ) (messages : List (List ℕ)) (scan : Scan) : Type 0 where
+  pub passes : Passes header bytes messages scan.start scan.header scan.rest.items
   pub stops : Stops scan.header scan.rest.items
   pub sizes : scan.start + size_of scan.header + length scan.rest.items ≤ size_of header + length bytes
-  pub most : size_of scan.header ≤ MAX_HEADER
+  pub most : IsBounded scan.header
+
+abbrev pub IsScan : Header → List ℕ → Scan → Type 0
+IsScan header bytes scan = LeadsTo header bytes (contents scan.messages.items) scan

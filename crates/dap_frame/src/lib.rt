@@ -2,9 +2,10 @@
 //! ones however the bytes are cut into pieces, and a content becomes the bytes that carry it.
 #![tactic(auto)]
 
+mod advance;
 mod bytes;
 mod fault;
-//mod framer;
+mod framer;
 mod header;
 mod line;
 mod memory;
@@ -12,6 +13,6 @@ mod scan;
 //mod write;
 
 pub use fault::FrameFault;
-//pub use framer::Framer;
+pub use framer::Framer;
 pub use memory::Memory;
 //pub use write::frame;

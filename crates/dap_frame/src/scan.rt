@@ -1,5 +1,5 @@
 ghost use Rattle.std.specs.Prelude.{◌+◌, ◌^◌, ◌<◌, ◌≤◌, length, drop, IfOk};
-ghost use Rattle.dap_frame.specs.Header.{size_of};
+ghost use Rattle.dap_frame.specs.Header.{IsBounded};
 ghost use Rattle.dap_frame.specs.Scan.{HasNoWholeLine, HasRead, IsPart, IsContentPart, IsScan};
 
 use crate::bytes::place_of;
@@ -37,7 +37,7 @@ pub struct Scan {
 /// Reads bytes that come after a header's whole lines. Each byte is looked at once for the end of a
 /// line, and once more with its line or as a part of a content.
 pub fn read_on(alloc: Global, header: Header, bytes: &[u8]) -> Result<Scan, Memory>
-    requires { size_of header ≤ MAX_HEADER }
+    requires { IsBounded header }
     ensures { IfOk result (IsScan header bytes.now) }
 {
     let mut messages = VecDeque::new(alloc);
@@ -70,7 +70,7 @@ pub fn read_on(alloc: Global, header: Header, bytes: &[u8]) -> Result<Scan, Memo
 
 /// The next message, or what there is of it.
 fn next_part(alloc: Global, header: Header, bytes: &[u8]) -> Result<Part, Memory>
-    requires { size_of header ≤ MAX_HEADER }
+    requires { IsBounded header }
     ensures { IfOk result (IsPart header bytes.now) }
 {
     let (header, used) = read_lines(header, bytes);
@@ -94,7 +94,7 @@ fn next_part(alloc: Global, header: Header, bytes: &[u8]) -> Result<Part, Memory
 
 /// The header after the whole lines that the bytes begin with, and how many bytes these take.
 fn read_lines(header: Header, bytes: &[u8]) -> (Header, usize)
-    requires { size_of header ≤ MAX_HEADER }
+    requires { IsBounded header }
     ensures read { HasRead header bytes.now result.0 result.1 }
     ensures rest { HasNoWholeLine result.0 (drop result.1 bytes.now) }
 {
