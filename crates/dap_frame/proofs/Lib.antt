@@ -3,3 +3,4 @@ pub mod Lines
 pub mod Reading
 pub mod Scanning
 pub mod Advancing
+pub mod Framings

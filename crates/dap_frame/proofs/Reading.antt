@@ -170,7 +170,7 @@ passes_content size n content rest long = record {
       (subst (λ (k : ℕ). Reads k (Open nothing_said) (rest ++ more) contents end) place reads));
 }
 
-next_from-faulty : (f : HeaderFault) (bytes : List ℕ) → next_from (Faulty f) bytes ≡ fault f
+pub next_from-faulty : (f : HeaderFault) (bytes : List ℕ) → next_from (Faulty f) bytes ≡ fault f
 next_from-faulty f bytes = ap (next_by 0 bytes) (fold-fault f (lines_of (take (MAX_HEADER - 0) bytes)))
 
 -- Behind a fault nothing is read.

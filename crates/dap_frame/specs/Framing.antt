@@ -1,9 +1,12 @@
 -- What a framer holds, and what it stands for.
-use Rattle.std.specs.Prelude.{◌≡◌, ℕ, ◌+◌, ◌≤◌, List, [], ◌++◌, length, Option, Some, None}
+use Rattle.std.specs.Prelude.{◌≡◌, ℕ, ◌+◌, ◌<◌, ◌≤◌, ◌^◌, List, [], ◌∷◌, ◌++◌, length, Option, Some, None, Bool, true, false}
+use Rattle.std.specs.Global.{Vec}
+use Rattle.dap_frame.specs.declared.scan.Scan.{Scan}
 use Rattle.dap_frame.specs.declared.fault.FrameFault.{FrameFault}
 use Rattle.dap_frame.specs.declared.header.Header.{Header}
+use Rattle.dap_frame.specs.declared.header.Header.TheVariants.{Open, Ended, Faulty}
 use Rattle.dap_frame.specs.Header.{nothing_said, size_of, IsBounded}
-use Rattle.dap_frame.specs.Stream.{End, failed, end_within, Reads, AreMessages, IsUnfinished}
+use Rattle.dap_frame.specs.Stream.{End, failed, told, end_within, Reads, AreMessages, IsUnfinished}
 
 -- A framer as its callers see it: the whole messages that are still to be taken; of the next one, the
 -- place where it begins, its header as far as its lines are whole, and the bytes after these; and the
@@ -23,6 +26,17 @@ end_by (Some fault) header rest = failed fault
 abbrev pub end_of : Framing → End
 end_of f = end_by f.fault f.header f.rest
 
+-- the fault of a header that begins at `start`
+abbrev pub fault_in : ℕ → Header → Option FrameFault
+fault_in start (Open head) = None
+fault_in start (Ended size n) = None
+fault_in start (Faulty f) = Some (told start f)
+
+abbrev pub is_faulty : Header → Bool
+is_faulty (Open head) = false
+is_faulty (Ended size n) = false
+is_faulty (Faulty f) = true
+
 -- the part of a message, where there is no fault
 abbrev pub IsPartBy : Option FrameFault → Header → List ℕ → Type 0
 IsPartBy None header rest = IsUnfinished header rest × IsBounded header
@@ -40,3 +54,16 @@ pub record IsAfter (f : Framing) (stream : List ℕ) (taken : List (List ℕ)) :
   pub on : (bytes : List ℕ) (contents : List (List ℕ)) (end : End) →
     GoesOnBy f.fault f bytes contents end → AreMessages (stream ++ bytes) (taken ++ f.messages ++ contents) end
   pub place : f.start + size_of f.header + length f.rest ≤ length stream
+
+-- What take gave, as a list.
+abbrev pub given : Option (Vec ℕ) → List (List ℕ)
+given None = []
+given (Some message) = message.items ∷ []
+
+-- From one framer to the next: these messages are added, and it goes on where the scan ended.
+pub record Reaches (old new : Framing) (messages : List (List ℕ)) (scan : Scan) : Type 0 where
+  pub messages_are : new.messages ≡ old.messages ++ messages
+  pub start : old.start + scan.start < 2 ^ 64 → new.start ≡ old.start + scan.start
+  pub header : new.header ≡ scan.header
+  pub rest : new.rest ≡ scan.rest.items
+  pub fault : new.start < 2 ^ 63 → new.fault ≡ fault_in new.start scan.header

@@ -1,6 +1,6 @@
 ghost use Rattle.std.specs.Prelude.{◌≡◌, ℕ, ◌+◌, ◌-◌, ◌^◌, ◌<◌, ◌≤◌, List, Some, None, length, take, drop, ◌++◌};
 ghost use Rattle.dap_frame.specs.Line.{line_of};
-ghost use Rattle.dap_frame.specs.Header.{nothing_said, ended, judged};
+ghost use Rattle.dap_frame.specs.Header.{nothing_said, size_of, ended, judged};
 ghost use Rattle.dap_frame.specs.Stream.{told};
 
 use crate::fault::FrameFault;
@@ -93,6 +93,19 @@ impl Head {
                 }),
             }),
             (Line::Empty, Some(LengthLine { at, n })) => ended(size, at, n),
+        }
+    }
+}
+
+impl Header {
+    /// The number of bytes of its lines so far, 0 where it is faulty.
+    pub fn size(self) -> usize
+        ensures { result ≡ size_of self }
+    {
+        match self {
+            Header::Open(head) => head.size,
+            Header::Ended { size, .. } => size,
+            Header::Faulty(_) => 0,
         }
     }
 }
