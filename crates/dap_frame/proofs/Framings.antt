@@ -1,14 +1,18 @@
 -- What a framer stands for, after each call.
 use Rattle.std.proofs.Common.{◌≡◌, ℕ, ◌+◌, ◌<◌, ◌≤◌, Bool, true, false, List, [], ◌∷◌, ◌++◌, length, refl, sym, ◌∙◌, ap, subst, arith, append_assoc, append-nil, length-append}
-use Rattle.std.specs.Prelude.{Option, Some, None}
+use Rattle.std.specs.Prelude.{Option, Some, None, Result, Ok, Err, OnOk}
 use Rattle.dap_frame.specs.declared.fault.FrameFault.{FrameFault}
 use Rattle.dap_frame.specs.declared.header.HeaderFault.{HeaderFault}
 use Rattle.dap_frame.specs.declared.header.Header.{Header}
 use Rattle.dap_frame.specs.declared.header.Header.TheVariants.{Open, Ended, Faulty}
 use Rattle.dap_frame.specs.Header.{size_of, IsBounded}
 use Rattle.dap_frame.specs.Stream.{Next, End, Ends, failed, told, end_within, next_from, Reads, AreMessages, IsUnfinished, Stops, Passes}
-use Rattle.dap_frame.specs.Framing.{Framing, end_by, end_of, fault_in, is_faulty, IsPartBy, GoesOnBy, IsAfter}
-use Rattle.dap_frame.proofs.Reading.{next_from-faulty, reads_unfinished}
+use Rattle.dap_frame.specs.declared.scan.Scan.{Scan}
+use Rattle.dap_frame.specs.declared.advance.Progress.{Progress}
+use Rattle.dap_frame.specs.Advance.{IsProgress}
+use Rattle.dap_frame.specs.Scan.{LeadsTo}
+use Rattle.dap_frame.specs.Framing.{Framing, end_by, end_of, fault_in, is_faulty, IsPartBy, GoesOnBy, IsAfter, Reaches, Follows}
+use Rattle.dap_frame.proofs.Reading.{passes_none, next_from-faulty, reads_unfinished}
 
 -- what a framer's fault says of its header
 abbrev FaultFits : Option FrameFault → ℕ → Header → List ℕ → Type 0
@@ -83,6 +87,48 @@ after_read f g stream piece taken messages size before none passes stops sizes m
           (subst (λ (cs : List (List ℕ)). AreMessages (stream ++ (piece ++ bytes)) cs end) (all contents) (before.on (piece ++ bytes) (messages ++ contents) end goes_before)))
       (let long = length-append stream piece in let longer = length-append f.rest piece in omega (arith, before.place))
 
+-- A piece led on to the end of a scan.
+pub follows_scan : (f g : Framing) (piece : List ℕ) (messages : List (List ℕ)) (scan : Scan) → f.fault ≡ None →
+    LeadsTo f.header (f.rest ++ piece) messages scan → Reaches f g messages scan → Follows f g piece
+follows_scan f g piece messages scan none leads reaches = record {
+  after = λ stream taken short before.
+    let long = length-append f.rest piece in
+    let start_is : g.start ≡ f.start + scan.start = reaches.start (omega (arith, leads.sizes, before.place)) in
+    let passes : Passes f.header (f.rest ++ piece) messages scan.start g.header g.rest =
+      subst (λ (h : Header). Passes f.header (f.rest ++ piece) messages scan.start h g.rest) (sym reaches.header)
+        (subst (λ (xs : List ℕ). Passes f.header (f.rest ++ piece) messages scan.start scan.header xs) (sym reaches.rest) leads.passes) in
+    let stops : Stops g.header g.rest =
+      subst (λ (h : Header). Stops h g.rest) (sym reaches.header) (subst (λ (xs : List ℕ). Stops scan.header xs) (sym reaches.rest) leads.stops) in
+    let size_is : size_of g.header ≡ size_of scan.header = ap size_of reaches.header in
+    let rest_is : length g.rest ≡ length scan.rest.items = ap length reaches.rest in
+    let fault_is : g.fault ≡ fault_in g.start g.header =
+      reaches.fault (omega (arith, leads.sizes, before.place)) ∙ ap (fault_in g.start) (sym reaches.header) in
+    after_read f g stream piece taken messages scan.start before none passes stops (omega (arith, leads.sizes)) reaches.messages_are start_is fault_is;
+  real = reaches.real;
+}
+
+-- A piece went behind what was kept.
+pub follows_growth : (f g : Framing) (piece : List ℕ) → f.fault ≡ None → IsUnfinished f.header (f.rest ++ piece) →
+    g ≡ record f { rest = f.rest ++ piece } → Follows f g piece
+follows_growth f g piece none part same =
+    subst (λ (h : Framing). Follows f h piece) (sym same) (record {
+      after = λ stream taken short before.
+        let fault_is : f.fault ≡ fault_in f.start f.header = none ∙ sym (no_fault f.start f.header (f.rest ++ piece) part) in
+        let start_is : f.start ≡ f.start + 0 = omega arith in
+        after_read f (record f { rest = f.rest ++ piece }) stream piece taken [] 0 before none (passes_none f.header (f.rest ++ piece))
+          (stops_from f.header (f.rest ++ piece) part) (omega arith) (sym (append-nil f.messages)) start_is fault_is;
+      real = λ is. let e = sym none ∙ is in cc;
+    })
+  where
+    no_fault : (start : ℕ) (header : Header) (rest : List ℕ) → IsUnfinished header rest → fault_in start header ≡ None
+    no_fault start (Open head) rest unfinished = refl
+    no_fault start (Ended size n) rest unfinished = refl
+    no_fault start (Faulty f) rest unfinished = absurd unfinished
+    stops_from : (header : Header) (rest : List ℕ) → IsUnfinished header rest → Stops header rest
+    stops_from (Open head) rest unfinished = unfinished
+    stops_from (Ended size n) rest unfinished = unfinished
+    stops_from (Faulty f) rest unfinished = tt
+
 -- Behind a fault a piece changes nothing.
 pub after_fault : (f : Framing) (stream piece : List ℕ) (taken : List (List ℕ)) (fault : FrameFault) → IsAfter f stream taken → f.fault ≡ Some fault →
     IsAfter f (stream ++ piece) taken
@@ -113,3 +159,16 @@ after_take f g stream taken messages before messages_are same =
       GoesOnBy fault (record f { messages = g.messages }) bytes contents end → GoesOnBy fault f bytes contents end
     same_way None bytes contents end goes = goes
     same_way (Some fault) bytes contents end goes = goes
+
+pub progress_at : (h g : Header) (r s piece : List ℕ) (p q : Progress) → h ≡ g → r ≡ s → p ≡ q → IsProgress h r piece p → IsProgress g s piece q
+progress_at h g r s piece p q header_is rest_is same is =
+    subst (λ (k : Header). IsProgress k s piece q) header_is
+      (subst (λ (xs : List ℕ). IsProgress h xs piece q) rest_is (subst (λ (o : Progress). IsProgress h r piece o) same is))
+
+pub on_ok_weaker : {T E : Type 0} (r : Result T E) (P Q : Type 0) → (P → Q) → OnOk r P → OnOk r Q
+on_ok_weaker (Ok x) P Q f p = f p
+on_ok_weaker (Err e) P Q f p = p
+
+pub grown : (v f : Framing) (rest piece : List ℕ) → v ≡ f → rest ≡ v.rest ++ piece → record v { rest = rest } ≡ record f { rest = f.rest ++ piece }
+grown v f rest piece same is =
+    ap (λ (xs : List ℕ). record v { rest = xs }) is ∙ ap (λ (w : Framing). record w { rest = w.rest ++ piece }) same

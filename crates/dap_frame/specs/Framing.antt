@@ -1,8 +1,9 @@
 -- What a framer holds, and what it stands for.
-use Rattle.std.specs.Prelude.{◌≡◌, ℕ, ◌+◌, ◌<◌, ◌≤◌, ◌^◌, List, [], ◌∷◌, ◌++◌, length, Option, Some, None, Bool, true, false}
+use Rattle.std.specs.Prelude.{◌≡◌, ◌≢◌, ℕ, ◌+◌, ◌<◌, ◌≤◌, ◌^◌, List, [], ◌∷◌, ◌++◌, length, Option, Some, None, Bool, true, false}
 use Rattle.std.specs.Global.{Vec}
 use Rattle.dap_frame.specs.declared.scan.Scan.{Scan}
 use Rattle.dap_frame.specs.declared.fault.FrameFault.{FrameFault}
+use Rattle.dap_frame.specs.declared.fault.FrameFault.TheVariants.{Memory}
 use Rattle.dap_frame.specs.declared.header.Header.{Header}
 use Rattle.dap_frame.specs.declared.header.Header.TheVariants.{Open, Ended, Faulty}
 use Rattle.dap_frame.specs.Header.{nothing_said, size_of, IsBounded}
@@ -67,3 +68,10 @@ pub record Reaches (old new : Framing) (messages : List (List ℕ)) (scan : Scan
   pub header : new.header ≡ scan.header
   pub rest : new.rest ≡ scan.rest.items
   pub fault : new.start < 2 ^ 63 → new.fault ≡ fault_in new.start scan.header
+  pub real : new.fault ≢ Some Memory
+
+-- From one framer to the next: a piece was read.
+pub record Follows (old new : Framing) (piece : List ℕ) : Type 0 where
+  pub after : (stream : List ℕ) (taken : List (List ℕ)) → length stream + length piece < 2 ^ 63 →
+    IsAfter old stream taken → IsAfter new (stream ++ piece) taken
+  pub real : new.fault ≢ Some Memory

@@ -3,7 +3,7 @@ ghost use Rattle.std.specs.VecDeque.{deque_len, deque_capacity};
 ghost use Rattle.dap_frame.specs.Header.{IsBounded};
 ghost use Rattle.dap_frame.specs.Stream.{End, Stops};
 ghost use Rattle.dap_frame.specs.Scan.{contents};
-ghost use Rattle.dap_frame.specs.Framing.{end_of, fault_in, is_faulty, given, Reaches, IsAfter};
+ghost use Rattle.dap_frame.specs.Framing.{end_of, fault_in, is_faulty, given, Reaches, Follows, IsAfter};
 
 use crate::advance::{Progress, advance};
 use crate::fault::FrameFault;
@@ -77,11 +77,7 @@ impl Framer {
         if let Some(fault) = self.fault {
             return Err(fault);
         }
-        match advance(self.alloc, self.header, self.rest.as_slice(), piece)? {
-            Progress::Grows => self.rest.extend_from_slice(piece)?,
-            Progress::Reads(scan) => self.take_up(scan)?,
-            Progress::Fills { missing, scan } => self.fill(&piece[..missing], scan)?,
-        }
+        self.read(piece)?;
         match self.fault {
             Some(fault) => Err(fault),
             None => Ok(()),
@@ -103,6 +99,19 @@ impl Framer {
         ensures { IsTrue result ↔ (end_of self.now ≡ End.whole) }
     {
         self.fault.is_none() && self.header.size() == 0 && self.rest.is_empty()
+    }
+
+    /// Reads a piece, where there was no fault before it.
+    fn read(&mut self, piece: &[u8]) -> Result<(), Memory>
+        requires { self.old.fault ≡ None }
+        ensures ok { OnOk result (Follows self.old self.new piece.now) }
+        ensures err { OnErr result (self.new ≡ self.old) }
+    {
+        match advance(self.alloc, self.header, self.rest.as_slice(), piece)? {
+            Progress::Grows => Ok(self.rest.extend_from_slice(piece)?),
+            Progress::Reads(scan) => self.take_up(scan),
+            Progress::Fills { missing, scan } => self.fill(&piece[..missing], scan),
+        }
     }
 
     /// Adds the messages of a scan, and goes on where it ended.
@@ -155,6 +164,7 @@ impl Framer {
 fn fault_in(start: u64, header: Header) -> Option<FrameFault>
     ensures told { start < 2 ^ 63 → result ≡ fault_in start header }
     ensures known { IsSome result ↔ (is_faulty header ≡ true) }
+    ensures real { result ≢ Some FrameFault.Memory }
 {
     match header {
         Header::Faulty(fault) => Some(fault.told(start)),

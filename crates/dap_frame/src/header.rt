@@ -1,4 +1,4 @@
-ghost use Rattle.std.specs.Prelude.{◌≡◌, ℕ, ◌+◌, ◌-◌, ◌^◌, ◌<◌, ◌≤◌, List, Some, None, length, take, drop, ◌++◌};
+ghost use Rattle.std.specs.Prelude.{◌≡◌, ◌≢◌, ℕ, ◌+◌, ◌-◌, ◌^◌, ◌<◌, ◌≤◌, List, Some, None, length, take, drop, ◌++◌};
 ghost use Rattle.dap_frame.specs.Line.{line_of};
 ghost use Rattle.dap_frame.specs.Header.{nothing_said, size_of, ended, judged};
 ghost use Rattle.dap_frame.specs.Stream.{told};
@@ -47,7 +47,8 @@ pub enum Header {
 impl HeaderFault {
     /// The fault, in a header that begins at the place `start` of the stream.
     pub fn told(self, start: u64) -> FrameFault
-        ensures { start < 2 ^ 63 → result ≡ told start self }
+        ensures told { start < 2 ^ 63 → result ≡ told start self }
+        ensures real { result ≢ FrameFault.Memory }
     {
         match self {
             HeaderFault::Bad { at } => FrameFault::BadHeader {
