@@ -1,8 +1,8 @@
 -- What a piece makes of what was read before it.
 use Rattle.std.proofs.Common.{◌≡◌, ℕ, ◌+◌, ◌-◌, ◌<◌, ◌≤◌, List, [], ◌∷◌, ◌++◌, length, take, drop, sym, ◌∙◌, ap, subst, arith, append_assoc, length-append}
 use Rattle.std.specs.Prelude.{Some, None, position, min}
-use Rattle.std.proofs.lemmas.List.{drop_all, length-drop, length-take-le, take_min, take_all, take-append-drop}
-use Rattle.dap_frame.specs.declared.header.TheConstants.{MAX_HEADER, MAX_CONTENT}
+use Rattle.std.proofs.lemmas.List.{length-drop, length-take-le, take_min, take_all, take-append-drop}
+use Rattle.dap_frame.specs.declared.header.TheConstants.{MAX_HEADER}
 use Rattle.dap_frame.specs.declared.header.Head.{Head}
 use Rattle.dap_frame.specs.declared.header.HeaderFault.TheVariants.{Bad}
 use Rattle.dap_frame.specs.declared.header.Header.{Header}
@@ -31,9 +31,9 @@ fills size n rest piece scan part fits read =
     let left : length behind ≡ length piece - missing = length-drop missing piece in
     let size_is : size + n + scan.start ≡ scan.start + (size + n) = omega arith in
     let way : Passes (Ended size n) (rest ++ piece) (content ∷ contents scan.messages.items) (size + n + scan.start) scan.header scan.rest.items =
-      subst (λ (bytes : List ℕ). Passes (Ended size n) bytes (content ∷ contents scan.messages.items) (size + n + scan.start) scan.header scan.rest.items) whole
-        (passes_then (Ended size n) (Open nothing_said) scan.header (content ++ behind) behind scan.rest.items (content ∷ []) (contents scan.messages.items) (size + n) scan.start
-          (passes_content size n content behind long) read.passes) in
+    subst (λ (bytes : List ℕ). Passes (Ended size n) bytes (content ∷ contents scan.messages.items) (size + n + scan.start) scan.header scan.rest.items) whole
+    (passes_then (Ended size n) (Open nothing_said) scan.header (content ++ behind) behind scan.rest.items (content ∷ []) (contents scan.messages.items) (size + n) scan.start
+    (passes_content size n content behind long) read.passes) in
     record {
       leads = record {
         passes = subst (λ (k : ℕ). Passes (Ended size n) (rest ++ piece) (content ∷ contents scan.messages.items) k scan.header scan.rest.items) size_is way;
@@ -70,12 +70,12 @@ line_ends head rest piece end line next scan part found line_is next_is read =
     let size : size_of (judged head text) ≤ head.size + length text + 1 = size_most (judged head text) (head.size + length text + 1) (judged_size head text) in
     let next_size : size_of (judged head text) ≡ size_of next = ap size_of is in
     let first : Passes (Open head) (rest ++ piece) [] 0 next behind =
-      subst (λ (h : Header). Passes (Open head) (rest ++ piece) [] 0 h behind) is
-        (subst (λ (bytes : List ℕ). Passes (Open head) bytes [] 0 (judged head text) behind) whole (passes_line head text behind none within)) in
+    subst (λ (h : Header). Passes (Open head) (rest ++ piece) [] 0 h behind) is
+    (subst (λ (bytes : List ℕ). Passes (Open head) bytes [] 0 (judged head text) behind) whole (passes_line head text behind none within)) in
     let start_is : 0 + scan.start ≡ scan.start = omega arith in
     record {
       passes = subst (λ (k : ℕ). Passes (Open head) (rest ++ piece) (contents scan.messages.items) k scan.header scan.rest.items) start_is
-        (passes_then (Open head) next scan.header (rest ++ piece) behind scan.rest.items [] (contents scan.messages.items) 0 scan.start first read.passes);
+          (passes_then (Open head) next scan.header (rest ++ piece) behind scan.rest.items [] (contents scan.messages.items) 0 scan.start first read.passes);
       stops = read.stops;
       sizes = omega (arith, read.sizes, there.within);
       most = read.most;
@@ -102,11 +102,11 @@ line_full head rest piece scan part none full no_messages start_is header_is res
     let room : ℕ = room_left head rest in
     let window : MAX_HEADER - head.size ≡ length rest + room = omega (arith, part.short) in
     let cut : take (MAX_HEADER - head.size) (rest ++ piece) ≡ rest ++ take room piece =
-      ap (λ (k : ℕ). take k (rest ++ piece)) window ∙ take-append rest piece room in
+    ap (λ (k : ℕ). take k (rest ++ piece)) window ∙ take-append rest piece room in
     let no_lf : HasNoLf (take room piece) = subst HasNoLf (take_min room piece) (no_line (take (min room (length piece)) piece) none) in
     let all : length (rest ++ piece) ≡ length rest + length piece = length-append rest piece in
     let way : Passes (Open head) (rest ++ piece) [] 0 (Faulty (Bad 0)) [] =
-      passes_full head (rest ++ piece) (subst HasNoLf (sym cut) (no_lf-append rest (take room piece) part.no_lf no_lf)) (omega (arith, part.short)) in
+    passes_full head (rest ++ piece) (subst HasNoLf (sym cut) (no_lf-append rest (take room piece) part.no_lf no_lf)) (omega (arith, part.short)) in
     let to_header : Passes (Open head) (rest ++ piece) [] 0 scan.header [] = subst (λ (h : Header). Passes (Open head) (rest ++ piece) [] 0 h []) (sym header_is) way in
     let to_rest : Passes (Open head) (rest ++ piece) [] 0 scan.header scan.rest.items = subst (λ (xs : List ℕ). Passes (Open head) (rest ++ piece) [] 0 scan.header xs) (sym rest_is) to_header in
     let to_start : Passes (Open head) (rest ++ piece) [] scan.start scan.header scan.rest.items = subst (λ (k : ℕ). Passes (Open head) (rest ++ piece) [] k scan.header scan.rest.items) (sym start_is) to_rest in
@@ -114,8 +114,8 @@ line_full head rest piece scan part none full no_messages start_is header_is res
       passes = subst (λ (ms : List (List ℕ)). Passes (Open head) (rest ++ piece) ms scan.start scan.header scan.rest.items) (sym (ap contents no_messages)) to_start;
       stops = subst (λ (h : Header). Stops h scan.rest.items) (sym header_is) tt;
       sizes =
-        let size_is : size_of scan.header ≡ 0 = ap size_of header_is in
-        let length_is : length scan.rest.items ≡ 0 = ap length rest_is in
-        omega arith;
+          let size_is : size_of scan.header ≡ 0 = ap size_of header_is in
+          let length_is : length scan.rest.items ≡ 0 = ap length rest_is in
+          omega arith;
       most = subst IsBounded (sym header_is) tt;
     }

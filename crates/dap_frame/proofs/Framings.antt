@@ -1,12 +1,12 @@
 -- What a framer stands for, after each call.
-use Rattle.std.proofs.Common.{◌≡◌, ℕ, ◌+◌, ◌<◌, ◌≤◌, Bool, true, false, List, [], ◌∷◌, ◌++◌, length, refl, sym, ◌∙◌, ap, subst, arith, append_assoc, append-nil, length-append}
+use Rattle.std.proofs.Common.{◌≡◌, ℕ, ◌+◌, ◌≤◌, false, List, [], ◌++◌, length, refl, sym, ◌∙◌, ap, subst, arith, append_assoc, append-nil, length-append}
 use Rattle.std.specs.Prelude.{Option, Some, None, Result, Ok, Err, OnOk}
 use Rattle.dap_frame.specs.declared.fault.FrameFault.{FrameFault}
 use Rattle.dap_frame.specs.declared.header.HeaderFault.{HeaderFault}
 use Rattle.dap_frame.specs.declared.header.Header.{Header}
 use Rattle.dap_frame.specs.declared.header.Header.TheVariants.{Open, Ended, Faulty}
 use Rattle.dap_frame.specs.Header.{size_of, IsBounded}
-use Rattle.dap_frame.specs.Stream.{Next, End, Ends, failed, told, end_within, next_from, Reads, AreMessages, IsUnfinished, Stops, Passes}
+use Rattle.dap_frame.specs.Stream.{Next, End, Ends, failed, told, end_within, Reads, AreMessages, IsUnfinished, Stops, Passes}
 use Rattle.dap_frame.specs.declared.scan.Scan.{Scan}
 use Rattle.dap_frame.specs.declared.advance.Progress.{Progress}
 use Rattle.dap_frame.specs.Advance.{IsProgress}
@@ -44,8 +44,8 @@ goes_on (Some fault) g bytes contents end fits over =
     let f : HeaderFault = fits.0 in
     let end_is : failed (told g.start f) ≡ end = sym (over.1 ∙ ap failed fits.2) in
     subst (λ (cs : List (List ℕ)). Reads g.start g.header (g.rest ++ bytes) cs end) (sym over.0)
-      (subst (λ (h : Header). Reads g.start h (g.rest ++ bytes) [] end) (sym fits.1)
-        (subst (λ (e : End). Reads g.start (Faulty f) (g.rest ++ bytes) [] e) end_is (reads_faulty g.start f (g.rest ++ bytes))))
+    (subst (λ (h : Header). Reads g.start h (g.rest ++ bytes) [] end) (sym fits.1)
+    (subst (λ (e : End). Reads g.start (Faulty f) (g.rest ++ bytes) [] e) end_is (reads_faulty g.start f (g.rest ++ bytes))))
 
 ends_now : (fault : Option FrameFault) (g : Framing) → FaultFits fault g.start g.header g.rest → GoesOnBy fault g [] [] (end_by fault g.header g.rest)
 ends_now None g fits =
@@ -58,7 +58,7 @@ after_from_on : (g : Framing) (stream : List ℕ) (taken : List (List ℕ)) → 
     g.start + size_of g.header + length g.rest ≤ length stream → IsAfter g stream taken
 after_from_on g stream taken now on place = record {
   so_far =
-    subst (λ (bytes : List ℕ). AreMessages bytes (taken ++ g.messages) (end_of g)) (append-nil stream)
+      subst (λ (bytes : List ℕ). AreMessages bytes (taken ++ g.messages) (end_of g)) (append-nil stream)
       (subst (λ (cs : List (List ℕ)). AreMessages (stream ++ []) cs (end_of g)) (append-nil (taken ++ g.messages)) (on [] [] (end_of g) now));
   on = on;
   place = place;
@@ -71,39 +71,39 @@ pub after_read : (f g : Framing) (stream piece : List ℕ) (taken messages : Lis
     g.messages ≡ f.messages ++ messages → g.start ≡ f.start + size → g.fault ≡ fault_in g.start g.header → IsAfter g (stream ++ piece) taken
 after_read f g stream piece taken messages size before none passes stops sizes messages_are start_is fault_is =
     let fits : FaultFits g.fault g.start g.header g.rest =
-      subst (λ (fault : Option FrameFault). FaultFits fault g.start g.header g.rest) (sym fault_is) (fits_in g.start g.header g.rest stops) in
+    subst (λ (fault : Option FrameFault). FaultFits fault g.start g.header g.rest) (sym fault_is) (fits_in g.start g.header g.rest stops) in
     let all : (contents : List (List ℕ)) → (taken ++ f.messages) ++ (messages ++ contents) ≡ (taken ++ g.messages) ++ contents =
-      λ contents. sym (append_assoc (taken ++ f.messages) messages contents)
-        ∙ ap (λ (ms : List (List ℕ)). ms ++ contents) (append_assoc taken f.messages messages ∙ ap (λ (ms : List (List ℕ)). taken ++ ms) (sym messages_are)) in
+    λ contents. sym (append_assoc (taken ++ f.messages) messages contents)
+    ∙ ap (λ (ms : List (List ℕ)). ms ++ contents) (append_assoc taken f.messages messages ∙ ap (λ (ms : List (List ℕ)). taken ++ ms) (sym messages_are)) in
     after_from_on g (stream ++ piece) taken (ends_now g.fault g fits)
-      (λ bytes contents end goes.
-        let reads : Reads f.start f.header ((f.rest ++ piece) ++ bytes) (messages ++ contents) end =
-          passes.on f.start g.start bytes contents end start_is (goes_on g.fault g bytes contents end fits goes) in
-        let from : Reads f.start f.header (f.rest ++ (piece ++ bytes)) (messages ++ contents) end =
-          subst (λ (xs : List ℕ). Reads f.start f.header xs (messages ++ contents) end) (append_assoc f.rest piece bytes) reads in
-        let goes_before : GoesOnBy f.fault f (piece ++ bytes) (messages ++ contents) end =
-          subst (λ (fault : Option FrameFault). GoesOnBy fault f (piece ++ bytes) (messages ++ contents) end) (sym none) from in
-        subst (λ (xs : List ℕ). AreMessages xs ((taken ++ g.messages) ++ contents) end) (sym (append_assoc stream piece bytes))
-          (subst (λ (cs : List (List ℕ)). AreMessages (stream ++ (piece ++ bytes)) cs end) (all contents) (before.on (piece ++ bytes) (messages ++ contents) end goes_before)))
-      (let long = length-append stream piece in let longer = length-append f.rest piece in omega (arith, before.place))
+    (λ bytes contents end goes.
+    let reads : Reads f.start f.header ((f.rest ++ piece) ++ bytes) (messages ++ contents) end =
+    passes.on f.start g.start bytes contents end start_is (goes_on g.fault g bytes contents end fits goes) in
+    let from : Reads f.start f.header (f.rest ++ (piece ++ bytes)) (messages ++ contents) end =
+    subst (λ (xs : List ℕ). Reads f.start f.header xs (messages ++ contents) end) (append_assoc f.rest piece bytes) reads in
+    let goes_before : GoesOnBy f.fault f (piece ++ bytes) (messages ++ contents) end =
+    subst (λ (fault : Option FrameFault). GoesOnBy fault f (piece ++ bytes) (messages ++ contents) end) (sym none) from in
+    subst (λ (xs : List ℕ). AreMessages xs ((taken ++ g.messages) ++ contents) end) (sym (append_assoc stream piece bytes))
+    (subst (λ (cs : List (List ℕ)). AreMessages (stream ++ (piece ++ bytes)) cs end) (all contents) (before.on (piece ++ bytes) (messages ++ contents) end goes_before)))
+    (let long = length-append stream piece in let longer = length-append f.rest piece in omega (arith, before.place))
 
 -- A piece led on to the end of a scan.
 pub follows_scan : (f g : Framing) (piece : List ℕ) (messages : List (List ℕ)) (scan : Scan) → f.fault ≡ None →
     LeadsTo f.header (f.rest ++ piece) messages scan → Reaches f g messages scan → Follows f g piece
 follows_scan f g piece messages scan none leads reaches = record {
   after = λ stream taken short before.
-    let long = length-append f.rest piece in
-    let start_is : g.start ≡ f.start + scan.start = reaches.start (omega (arith, leads.sizes, before.place)) in
-    let passes : Passes f.header (f.rest ++ piece) messages scan.start g.header g.rest =
+      let long = length-append f.rest piece in
+      let start_is : g.start ≡ f.start + scan.start = reaches.start (omega (arith, leads.sizes, before.place)) in
+      let passes : Passes f.header (f.rest ++ piece) messages scan.start g.header g.rest =
       subst (λ (h : Header). Passes f.header (f.rest ++ piece) messages scan.start h g.rest) (sym reaches.header)
-        (subst (λ (xs : List ℕ). Passes f.header (f.rest ++ piece) messages scan.start scan.header xs) (sym reaches.rest) leads.passes) in
-    let stops : Stops g.header g.rest =
+      (subst (λ (xs : List ℕ). Passes f.header (f.rest ++ piece) messages scan.start scan.header xs) (sym reaches.rest) leads.passes) in
+      let stops : Stops g.header g.rest =
       subst (λ (h : Header). Stops h g.rest) (sym reaches.header) (subst (λ (xs : List ℕ). Stops scan.header xs) (sym reaches.rest) leads.stops) in
-    let size_is : size_of g.header ≡ size_of scan.header = ap size_of reaches.header in
-    let rest_is : length g.rest ≡ length scan.rest.items = ap length reaches.rest in
-    let fault_is : g.fault ≡ fault_in g.start g.header =
+      let size_is : size_of g.header ≡ size_of scan.header = ap size_of reaches.header in
+      let rest_is : length g.rest ≡ length scan.rest.items = ap length reaches.rest in
+      let fault_is : g.fault ≡ fault_in g.start g.header =
       reaches.fault (omega (arith, leads.sizes, before.place)) ∙ ap (fault_in g.start) (sym reaches.header) in
-    after_read f g stream piece taken messages scan.start before none passes stops (omega (arith, leads.sizes)) reaches.messages_are start_is fault_is;
+      after_read f g stream piece taken messages scan.start before none passes stops (omega (arith, leads.sizes)) reaches.messages_are start_is fault_is;
   real = reaches.real;
 }
 
@@ -113,9 +113,9 @@ pub follows_growth : (f g : Framing) (piece : List ℕ) → f.fault ≡ None →
 follows_growth f g piece none part same =
     subst (λ (h : Framing). Follows f h piece) (sym same) (record {
       after = λ stream taken short before.
-        let fault_is : f.fault ≡ fault_in f.start f.header = none ∙ sym (no_fault f.start f.header (f.rest ++ piece) part) in
-        let start_is : f.start ≡ f.start + 0 = omega arith in
-        after_read f (record f { rest = f.rest ++ piece }) stream piece taken [] 0 before none (passes_none f.header (f.rest ++ piece))
+          let fault_is : f.fault ≡ fault_in f.start f.header = none ∙ sym (no_fault f.start f.header (f.rest ++ piece) part) in
+          let start_is : f.start ≡ f.start + 0 = omega arith in
+          after_read f (record f { rest = f.rest ++ piece }) stream piece taken [] 0 before none (passes_none f.header (f.rest ++ piece))
           (stops_from f.header (f.rest ++ piece) part) (omega arith) (sym (append-nil f.messages)) start_is fault_is;
       real = λ is. let e = sym none ∙ is in cc;
     })
@@ -124,6 +124,7 @@ follows_growth f g piece none part same =
     no_fault start (Open head) rest unfinished = refl
     no_fault start (Ended size n) rest unfinished = refl
     no_fault start (Faulty f) rest unfinished = absurd unfinished
+
     stops_from : (header : Header) (rest : List ℕ) → IsUnfinished header rest → Stops header rest
     stops_from (Open head) rest unfinished = unfinished
     stops_from (Ended size n) rest unfinished = unfinished
@@ -134,14 +135,14 @@ pub after_fault : (f : Framing) (stream piece : List ℕ) (taken : List (List �
     IsAfter f (stream ++ piece) taken
 after_fault f stream piece taken fault before is =
     let over : (bytes more : List ℕ) (contents : List (List ℕ)) (end : End) → GoesOnBy f.fault f bytes contents end → GoesOnBy f.fault f more contents end =
-      λ bytes more contents end goes.
-        subst (λ (o : Option FrameFault). GoesOnBy o f more contents end) (sym is) (subst (λ (o : Option FrameFault). GoesOnBy o f bytes contents end) is goes) in
+    λ bytes more contents end goes.
+    subst (λ (o : Option FrameFault). GoesOnBy o f more contents end) (sym is) (subst (λ (o : Option FrameFault). GoesOnBy o f bytes contents end) is goes) in
     let now : GoesOnBy f.fault f [] [] (end_of f) =
-      subst (λ (o : Option FrameFault). GoesOnBy o f [] [] (end_by o f.header f.rest)) (sym is) (refl, refl) in
+    subst (λ (o : Option FrameFault). GoesOnBy o f [] [] (end_by o f.header f.rest)) (sym is) (refl, refl) in
     after_from_on f (stream ++ piece) taken now
-      (λ bytes contents end goes. subst (λ (xs : List ℕ). AreMessages xs ((taken ++ f.messages) ++ contents) end) (sym (append_assoc stream piece bytes))
-        (before.on (piece ++ bytes) contents end (over bytes (piece ++ bytes) contents end goes)))
-      (let long = length-append stream piece in omega (arith, before.place))
+    (λ bytes contents end goes. subst (λ (xs : List ℕ). AreMessages xs ((taken ++ f.messages) ++ contents) end) (sym (append_assoc stream piece bytes))
+    (before.on (piece ++ bytes) contents end (over bytes (piece ++ bytes) contents end goes)))
+    (let long = length-append stream piece in omega (arith, before.place))
 
 -- What was taken is held no more.
 pub after_take : (f g : Framing) (stream : List ℕ) (taken messages : List (List ℕ)) → IsAfter f stream taken → f.messages ≡ messages ++ g.messages →
@@ -151,19 +152,19 @@ after_take f g stream taken messages before messages_are same =
     subst (λ (h : Framing). IsAfter h stream (taken ++ messages)) (sym same) (record {
       so_far = subst (λ (ms : List (List ℕ)). AreMessages stream ms (end_of f)) all before.so_far;
       on = λ bytes contents end goes. subst (λ (ms : List (List ℕ)). AreMessages (stream ++ bytes) (ms ++ contents) end) all
-        (before.on bytes contents end (same_way f.fault bytes contents end goes));
+          (before.on bytes contents end (same_way f.fault bytes contents end goes));
       place = before.place;
     })
   where
     same_way : (fault : Option FrameFault) (bytes : List ℕ) (contents : List (List ℕ)) (end : End) →
-      GoesOnBy fault (record f { messages = g.messages }) bytes contents end → GoesOnBy fault f bytes contents end
+        GoesOnBy fault (record f { messages = g.messages }) bytes contents end → GoesOnBy fault f bytes contents end
     same_way None bytes contents end goes = goes
     same_way (Some fault) bytes contents end goes = goes
 
 pub progress_at : (h g : Header) (r s piece : List ℕ) (p q : Progress) → h ≡ g → r ≡ s → p ≡ q → IsProgress h r piece p → IsProgress g s piece q
 progress_at h g r s piece p q header_is rest_is same is =
     subst (λ (k : Header). IsProgress k s piece q) header_is
-      (subst (λ (xs : List ℕ). IsProgress h xs piece q) rest_is (subst (λ (o : Progress). IsProgress h r piece o) same is))
+    (subst (λ (xs : List ℕ). IsProgress h xs piece q) rest_is (subst (λ (o : Progress). IsProgress h r piece o) same is))
 
 pub on_ok_weaker : {T E : Type 0} (r : Result T E) (P Q : Type 0) → (P → Q) → OnOk r P → OnOk r Q
 on_ok_weaker (Ok x) P Q f p = f p

@@ -1,5 +1,5 @@
 -- How far a header gets, line by line.
-use Rattle.std.proofs.Common.{◌≡◌, ℕ, suc, ◌+◌, ◌-◌, ◌<◌, ◌≤◌, Bool, true, false, cond, inl, inr, ◌⊎◌, List, [], ◌∷◌, ◌++◌, length, take, drop, refl, sym, ◌∙◌, ap, subst, arith}
+use Rattle.std.proofs.Common.{◌≡◌, ℕ, suc, ◌+◌, ◌-◌, ◌<◌, ◌≤◌, true, false, cond, inl, inr, ◌⊎◌, List, [], ◌∷◌, ◌++◌, length, take, refl, sym, ◌∙◌, ap, subst, arith}
 use Rattle.std.specs.Prelude.{Option, Some, None, nat_le, fold}
 use Rattle.std.proofs.lemmas.Bool.{cases_Bool, cond-true, cond-false, leb-true}
 use Rattle.std.proofs.lemmas.List.Folds.{fold_stays}
@@ -23,8 +23,8 @@ HasSize header size = (size_of header ≡ size) ⊎ ((f : HeaderFault) × (heade
 ended_size : (size at n : ℕ) → HasSize (ended size at n) size
 ended_size size at n =
     elim (nat_le n MAX_CONTENT) as (λ b. HasSize (cond b (Ended size n) (Faulty (TooLong at n))) size) [
-      true ↦ inl refl
-    | false ↦ inr (TooLong at n, refl)
+      | true ↦ inl refl
+      | false ↦ inr (TooLong at n, refl)
     ]
 
 ended_by_size : (head : Head) (size : ℕ) (length : Option LengthLine) → HasSize (ended_by head size length) size
@@ -52,8 +52,8 @@ size_most header size (inr fault) = let e : size_of header ≡ 0 = ap size_of fa
 ended_bounded : (size at n : ℕ) → size ≤ MAX_HEADER → IsBounded (ended size at n)
 ended_bounded size at n fits =
     elim (cases_Bool (nat_le n MAX_CONTENT)) [
-      inl short ↦ subst IsBounded (sym (cond-true (nat_le n MAX_CONTENT) (Ended size n) (Faulty (TooLong at n)) short)) (fits, leb-true n MAX_CONTENT short)
-    | inr long ↦ subst IsBounded (sym (cond-false (nat_le n MAX_CONTENT) (Ended size n) (Faulty (TooLong at n)) long)) tt
+      | inl short ↦ subst IsBounded (sym (cond-true (nat_le n MAX_CONTENT) (Ended size n) (Faulty (TooLong at n)) short)) (fits, leb-true n MAX_CONTENT short)
+      | inr long ↦ subst IsBounded (sym (cond-false (nat_le n MAX_CONTENT) (Ended size n) (Faulty (TooLong at n)) long)) tt
     ]
 
 ended_by_bounded : (head : Head) (size : ℕ) (length : Option LengthLine) → size ≤ MAX_HEADER → IsBounded (ended_by head size length)
@@ -90,8 +90,8 @@ pub fold_grows : (header : Header) (lines : List (List ℕ)) (size n : ℕ) → 
 fold_grows header [] size n is = let e = ap size_of is in omega (arith, e)
 fold_grows (Open head) (line ∷ lines) size n is =
     elim (judged_size head line) [
-      inl sized ↦ omega (arith, sized, fold_grows (judged head line) lines size n is)
-    | inr fault ↦ absurd (let e : fold after_line (judged head line) lines ≡ Faulty fault.0 = ap (λ (h : Header). fold after_line h lines) fault.1 ∙ fold-fault fault.0 lines in cc)
+      | inl sized ↦ omega (arith, sized, fold_grows (judged head line) lines size n is)
+      | inr fault ↦ absurd (let e : fold after_line (judged head line) lines ≡ Faulty fault.0 = ap (λ (h : Header). fold after_line h lines) fault.1 ∙ fold-fault fault.0 lines in cc)
     ]
 fold_grows (Ended before m) (line ∷ lines) size n is = let e = ap size_of (sym (fold-ended before m lines) ∙ is) in omega (arith, e)
 fold_grows (Faulty f) (line ∷ lines) size n is = absurd (let e = fold-fault f lines in cc)
@@ -108,11 +108,11 @@ header_on-line head text tail none within =
     let w : ℕ = MAX_HEADER - head.size - length text - 1 in
     let window : MAX_HEADER - head.size ≡ length text + (1 + w) = omega arith in
     let cut : lines_of (take (MAX_HEADER - head.size) (text ++ 10 ∷ tail)) ≡ text ∷ lines_of (take w tail) =
-      ap (λ (k : ℕ). lines_of (take k (text ++ 10 ∷ tail))) window ∙ ap lines_of (take-line text tail w) ∙ lines_of-line text (take w tail) none in
+    ap (λ (k : ℕ). lines_of (take k (text ++ 10 ∷ tail))) window ∙ ap lines_of (take-line text tail w) ∙ lines_of-line text (take w tail) none in
     let step : header_on (Open head) (text ++ 10 ∷ tail) ≡ fold after_line (judged head text) (lines_of (take w tail)) = ap (fold after_line (Open head)) cut in
     elim (judged_size head text) [
-      inl sized ↦ step ∙ (let same : w ≡ MAX_HEADER - size_of (judged head text) = omega (arith, sized) in ap (λ (k : ℕ). fold after_line (judged head text) (lines_of (take k tail))) same)
-    | inr fault ↦ step ∙ stuck fault.0 (judged head text) (lines_of (take w tail)) (lines_of (take (MAX_HEADER - size_of (judged head text)) tail)) fault.1
+      | inl sized ↦ step ∙ (let same : w ≡ MAX_HEADER - size_of (judged head text) = omega (arith, sized) in ap (λ (k : ℕ). fold after_line (judged head text) (lines_of (take k tail))) same)
+      | inr fault ↦ step ∙ stuck fault.0 (judged head text) (lines_of (take w tail)) (lines_of (take (MAX_HEADER - size_of (judged head text)) tail)) fault.1
     ]
   where
     stuck : (f : HeaderFault) (h : Header) (xs ys : List (List ℕ)) → h ≡ Faulty f → fold after_line h xs ≡ fold after_line h ys

@@ -1,7 +1,7 @@
 -- The whole lines of bytes.
-use Rattle.std.proofs.Common.{◌≡◌, ℕ, suc, ◌+◌, ◌-◌, ◌<◌, ◌≤◌, Bool, true, false, cond, inl, inr, ◌⊎◌, List, [], ◌∷◌, ◌++◌, length, take, drop, get_or, refl, sym, ◌∙◌, ap, add-one, arith, append_assoc, length-append}
-use Rattle.std.specs.Prelude.{◌==◌, Option, Some, None, position, ◌||◌, nat_lt}
-use Rattle.std.specs.List.{list_any, fold, position_or_len}
+use Rattle.std.proofs.Common.{◌≡◌, ℕ, suc, ◌+◌, ◌<◌, ◌≤◌, Bool, inl, inr, List, [], ◌∷◌, ◌++◌, length, take, drop, get_or, refl, sym, ◌∙◌, ap, arith}
+use Rattle.std.specs.Prelude.{◌==◌, Some, None, position, nat_lt}
+use Rattle.std.specs.List.{list_any, position_or_len}
 use Rattle.std.proofs.lemmas.Bool.{or_parts, or_from, cond-false, cases_Bool, ltb-false, eqb-true}
 use Rattle.std.proofs.lemmas.List.{length-take, length-take-le, take-take, get_or-take, take-append-drop, drop_more}
 use Rattle.std.proofs.lemmas.List.Folds.{list_any_none, list_any-append}
@@ -51,8 +51,8 @@ line_at bytes i at =
     record {
       within = found.0;
       none_before = list_any_none is_lf (take i bytes) (λ k d below.
-        let before : k < i = omega arith in
-        ap is_lf (get_or-take i bytes k d before) ∙ (position-Some is_lf bytes i d at).2 k before);
+          let before : k < i = omega arith in
+          ap is_lf (get_or-take i bytes k d before) ∙ (position-Some is_lf bytes i d at).2 k before);
       here = eqb-true (get_or bytes i 0) 10 found.1;
     }
 
@@ -76,8 +76,8 @@ line_cut bytes i line =
 pub no_line : (bytes : List ℕ) → position is_lf bytes ≡ None → HasNoLf bytes
 no_line bytes none =
     let past : length bytes ≤ position_or_len is_lf bytes =
-      elim (cases_Bool (nat_lt (position_or_len is_lf bytes) (length bytes))) [
-        inl is ↦ absurd (let e = rw is at none in cc)
+    elim (cases_Bool (nat_lt (position_or_len is_lf bytes) (length bytes))) [
+      | inl is ↦ absurd (let e = rw is at none in cc)
       | inr not ↦ ltb-false (position_or_len is_lf bytes) (length bytes) not
-      ] in
+    ] in
     list_any_none is_lf bytes (λ k d below. fails_before_first is_lf bytes k d (omega arith))

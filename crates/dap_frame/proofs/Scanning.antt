@@ -1,6 +1,6 @@
 -- A scan, step by step.
-use Rattle.std.proofs.Common.{◌≡◌, ℕ, suc, ◌+◌, ◌-◌, ◌<◌, ◌≤◌, Bool, true, false, cond, inl, inr, ◌⊎◌, List, [], ◌∷◌, ◌++◌, length, take, drop, refl, sym, ◌∙◌, ap, subst, arith, length-append}
-use Rattle.std.specs.Prelude.{◌==◌, Some, None, position, min, Result, Ok, Err, IfOk}
+use Rattle.std.proofs.Common.{◌≡◌, ℕ, ◌+◌, ◌-◌, ◌<◌, ◌≤◌, List, [], ◌∷◌, ◌++◌, length, take, drop, sym, ◌∙◌, ap, subst, arith}
+use Rattle.std.specs.Prelude.{Some, None, position, min, Result, Ok, Err, IfOk}
 use Rattle.std.proofs.lemmas.List.{drop-drop, length-drop, length-take-le, take_min, take_rest, take_all, take-append-drop, append-nil}
 use Rattle.dap_frame.specs.declared.header.TheConstants.{MAX_HEADER}
 use Rattle.dap_frame.specs.declared.header.Head.{Head}
@@ -12,8 +12,8 @@ use Rattle.dap_frame.specs.declared.scan.Part.{Part}
 use Rattle.dap_frame.specs.declared.scan.Part.TheVariants.{Message, Unfinished}
 use Rattle.dap_frame.specs.declared.scan.Scan.{Scan}
 use Rattle.dap_frame.specs.Header.{HasNoLf, size_of, IsBounded, judged, nothing_said}
-use Rattle.dap_frame.specs.Stream.{Passes, Stops, IsLinePart}
-use Rattle.dap_frame.specs.Scan.{HasNoWholeLine, weight, HasRead, IsWhole, IsRest, IsPart, IsContentPart, contents, HasScanned, IsScan, LeadsTo}
+use Rattle.dap_frame.specs.Stream.{Passes, Stops}
+use Rattle.dap_frame.specs.Scan.{HasNoWholeLine, weight, HasRead, IsWhole, IsRest, IsPart, IsContentPart, contents, HasScanned, IsScan}
 use Rattle.dap_frame.proofs.Headers.{size_most, judged_size, judged_bounded}
 use Rattle.dap_frame.proofs.Lines.{is_lf, IsLineAt, line_at, line_at-take, line_cut, no_line}
 use Rattle.dap_frame.proofs.Reading.{passes_none, passes_then, passes_line, passes_content, passes_full, passes_fault}
@@ -48,9 +48,9 @@ read_line header bytes head at end so_far found =
     let left : length rest ≡ length bytes - at = length-drop at bytes in
     let behind : drop (end + 1) rest ≡ drop (at + end + 1) bytes = drop-drop (end + 1) at bytes ∙ (let e : at + (end + 1) ≡ at + end + 1 = omega arith in ap (λ (k : ℕ). drop k bytes) e) in
     let step : Passes (Open head) rest [] 0 (judged head text) (drop (at + end + 1) bytes) =
-      subst (λ (xs : List ℕ). Passes (Open head) rest [] 0 (judged head text) xs) behind
-        (subst (λ (xs : List ℕ). Passes (Open head) xs [] 0 (judged head text) (drop (end + 1) rest)) (line_cut rest end line)
-          (passes_line head text (drop (end + 1) rest) line.none_before (omega arith))) in
+    subst (λ (xs : List ℕ). Passes (Open head) rest [] 0 (judged head text) xs) behind
+    (subst (λ (xs : List ℕ). Passes (Open head) xs [] 0 (judged head text) (drop (end + 1) rest)) (line_cut rest end line)
+    (passes_line head text (drop (end + 1) rest) line.none_before (omega arith))) in
     let size : size_of (judged head text) ≤ head.size + length text + 1 = size_most (judged head text) (head.size + length text + 1) (judged_size head text) in
     record {
       passes = passes_then header (Open head) (judged head text) bytes rest (drop (at + end + 1) bytes) [] [] 0 0 so_far.passes step;
@@ -88,14 +88,14 @@ part_from_content header bytes size n used (Message content whole last) read is 
     let cut : content.items ++ drop n rest ≡ rest = ap (λ (xs : List ℕ). xs ++ drop n rest) is.0 ∙ take-append-drop n rest in
     let behind : drop n rest ≡ drop last bytes = drop-drop n used bytes ∙ ap (λ (k : ℕ). drop k bytes) (sym is.3) in
     let step : Passes (Ended size n) rest (content.items ∷ []) whole (Open nothing_said) (drop last bytes) =
-      subst (λ (k : ℕ). Passes (Ended size n) rest (content.items ∷ []) k (Open nothing_said) (drop last bytes)) (sym is.2)
-        (subst (λ (xs : List ℕ). Passes (Ended size n) rest (content.items ∷ []) (size + n) (Open nothing_said) xs) behind
-          (subst (λ (xs : List ℕ). Passes (Ended size n) xs (content.items ∷ []) (size + n) (Open nothing_said) (drop n rest)) cut
-            (passes_content size n content.items (drop n rest) long))) in
+    subst (λ (k : ℕ). Passes (Ended size n) rest (content.items ∷ []) k (Open nothing_said) (drop last bytes)) (sym is.2)
+    (subst (λ (xs : List ℕ). Passes (Ended size n) rest (content.items ∷ []) (size + n) (Open nothing_said) xs) behind
+    (subst (λ (xs : List ℕ). Passes (Ended size n) xs (content.items ∷ []) (size + n) (Open nothing_said) (drop n rest)) cut
+    (passes_content size n content.items (drop n rest) long))) in
     let all : 0 + whole ≡ whole = omega arith in
     record {
       passes = subst (λ (k : ℕ). Passes header bytes (content.items ∷ []) k (Open nothing_said) (drop last bytes)) all
-        (passes_then header (Ended size n) (Open nothing_said) bytes rest (drop last bytes) [] (content.items ∷ []) 0 whole read.passes step);
+          (passes_then header (Ended size n) (Open nothing_said) bytes rest (drop last bytes) [] (content.items ∷ []) 0 whole read.passes step);
       within = omega (arith, is.1, is.3, read.within);
       sizes = omega (arith, is.2, is.3, read.sizes);
       progress = omega (arith, read.progress, is.3);
@@ -103,15 +103,15 @@ part_from_content header bytes size n used (Message content whole last) read is 
 part_from_content header bytes size n used (Unfinished reached rest) read is =
     let left : length (drop used bytes) ≡ length bytes - used = length-drop used bytes in
     let at_end : Passes header bytes [] 0 reached rest.items =
-      subst (λ (h : Header). Passes header bytes [] 0 h rest.items) (sym is.0)
-        (subst (λ (xs : List ℕ). Passes header bytes [] 0 (Ended size n) xs) (sym is.1) read.passes) in
+    subst (λ (h : Header). Passes header bytes [] 0 h rest.items) (sym is.0)
+    (subst (λ (xs : List ℕ). Passes header bytes [] 0 (Ended size n) xs) (sym is.1) read.passes) in
     record {
       passes = at_end;
       stops = subst (λ (h : Header). Stops h rest.items) (sym is.0) (subst (λ (xs : List ℕ). length xs < n) (sym is.1) is.2);
       sizes =
-        let size_is : size_of reached ≡ size = ap size_of is.0 in
-        let length_is : length rest.items ≡ length (drop used bytes) = ap length is.1 in
-        omega (arith, read.sizes, read.within);
+          let size_is : size_of reached ≡ size = ap size_of is.0 in
+          let length_is : length rest.items ≡ length (drop used bytes) = ap length is.1 in
+          omega (arith, read.sizes, read.within);
       most = subst IsBounded (sym is.0) read.most;
     }
 
@@ -121,7 +121,7 @@ pub rest_from_full : (header : Header) (bytes : List ℕ) (head : Head) (used : 
     IsRest header bytes (Faulty (Bad 0)) rest
 rest_from_full header bytes head used rest read none full empty = record {
   passes = subst (λ (xs : List ℕ). Passes header bytes [] 0 (Faulty (Bad 0)) xs) (sym empty)
-    (passes_then header (Open head) (Faulty (Bad 0)) bytes (drop used bytes) [] [] [] 0 0 read.passes (passes_full head (drop used bytes) none full));
+      (passes_then header (Open head) (Faulty (Bad 0)) bytes (drop used bytes) [] [] [] 0 0 read.passes (passes_full head (drop used bytes) none full));
   stops = tt;
   sizes = let e : length rest ≡ 0 = ap length empty in omega arith;
   most = tt;
@@ -168,7 +168,7 @@ scanned_message header bytes messages start reached at content size used so_far 
     let left : length (drop at bytes) ≡ length bytes - at = length-drop at bytes in
     record {
       passes = subst (λ (xs : List ℕ). Passes header bytes (messages ++ content ∷ []) (start + size) (Open nothing_said) xs) (drop-drop used at bytes)
-        (passes_then header reached (Open nothing_said) bytes (drop at bytes) (drop used (drop at bytes)) messages (content ∷ []) start size so_far.passes whole.passes);
+          (passes_then header reached (Open nothing_said) bytes (drop at bytes) (drop used (drop at bytes)) messages (content ∷ []) start size so_far.passes whole.passes);
       within = omega (arith, so_far.within, whole.within);
       sizes = omega (arith, so_far.sizes, whole.sizes);
       most = omega arith;
@@ -183,7 +183,7 @@ scan_from_rest header bytes reached at scan so_far is =
     let same : scan.start + 0 ≡ scan.start = omega arith in
     record {
       passes = subst (λ (ms : List (List ℕ)). Passes header bytes ms scan.start scan.header scan.rest.items) (append-nil (contents scan.messages.items))
-        (subst (λ (k : ℕ). Passes header bytes (contents scan.messages.items ++ []) k scan.header scan.rest.items) same
+          (subst (λ (k : ℕ). Passes header bytes (contents scan.messages.items ++ []) k scan.header scan.rest.items) same
           (passes_then header reached scan.header bytes (drop at bytes) scan.rest.items (contents scan.messages.items) [] scan.start 0 so_far.passes is.passes));
       stops = is.stops;
       sizes = omega (arith, so_far.within, so_far.sizes, is.sizes);

@@ -6,7 +6,7 @@ use Rattle.dap_frame.specs.declared.fault.FrameFault.{FrameFault}
 use Rattle.dap_frame.specs.declared.fault.FrameFault.TheVariants.{Memory}
 use Rattle.dap_frame.specs.declared.header.Header.{Header}
 use Rattle.dap_frame.specs.declared.header.Header.TheVariants.{Open, Ended, Faulty}
-use Rattle.dap_frame.specs.Header.{nothing_said, size_of, IsBounded}
+use Rattle.dap_frame.specs.Header.{size_of, IsBounded}
 use Rattle.dap_frame.specs.Stream.{End, failed, told, end_within, Reads, AreMessages, IsUnfinished}
 
 -- A framer as its callers see it: the whole messages that are still to be taken; of the next one, the
@@ -53,7 +53,7 @@ GoesOnBy (Some fault) f bytes contents end = (contents ≡ []) × (end ≡ faile
 pub record IsAfter (f : Framing) (stream : List ℕ) (taken : List (List ℕ)) : Type 0 where
   pub so_far : AreMessages stream (taken ++ f.messages) (end_of f)
   pub on : (bytes : List ℕ) (contents : List (List ℕ)) (end : End) →
-    GoesOnBy f.fault f bytes contents end → AreMessages (stream ++ bytes) (taken ++ f.messages ++ contents) end
+      GoesOnBy f.fault f bytes contents end → AreMessages (stream ++ bytes) (taken ++ f.messages ++ contents) end
   pub place : f.start + size_of f.header + length f.rest ≤ length stream
 
 -- What take gave, as a list.
@@ -73,5 +73,5 @@ pub record Reaches (old new : Framing) (messages : List (List ℕ)) (scan : Scan
 -- From one framer to the next: a piece was read.
 pub record Follows (old new : Framing) (piece : List ℕ) : Type 0 where
   pub after : (stream : List ℕ) (taken : List (List ℕ)) → length stream + length piece < 2 ^ 63 →
-    IsAfter old stream taken → IsAfter new (stream ++ piece) taken
+      IsAfter old stream taken → IsAfter new (stream ++ piece) taken
   pub real : new.fault ≢ Some Memory

@@ -1,5 +1,5 @@
 -- What a header line says. A line is given by the bytes before its LF.
-use Rattle.std.specs.Prelude.{◌≡◌, ℕ, ◌-◌, ◌+◌, Bool, true, ◌==◌, ◌&&◌, ◌||◌, not, nat_lt, nat_le, if◌then◌else◌, List, [], ◌∷◌, length, take, drop, map, reverse, slice_index, codes, Option, Some, None, position, fold, ◌*◌}
+use Rattle.std.specs.Prelude.{ℕ, ◌-◌, ◌+◌, Bool, ◌==◌, ◌&&◌, ◌||◌, not, nat_lt, nat_le, if◌then◌else◌, List, [], ◌∷◌, length, take, drop, map, reverse, slice_index, codes, Option, Some, None, position, fold, ◌*◌}
 use Rattle.std.specs.Char.{is_ascii_digit, to_ascii_lowercase}
 use Rattle.std.specs.List.{list_all}
 use Rattle.std.specs.Str.{bytes_eq}

@@ -1,5 +1,5 @@
 -- The messages of a stream, and how it ends.
-use Rattle.std.specs.Prelude.{◌≡◌, ℕ, ◌+◌, ◌-◌, ◌<◌, Bool, ◌==◌, nat_le, nat_lt, if◌then◌else◌, List, [], ◌∷◌, ◌++◌, length, take, drop}
+use Rattle.std.specs.Prelude.{◌≡◌, ℕ, ◌+◌, ◌-◌, ◌<◌, ◌==◌, nat_le, nat_lt, if◌then◌else◌, List, [], ◌∷◌, ◌++◌, length, take, drop}
 use Rattle.dap_frame.specs.declared.header.TheConstants.{MAX_HEADER}
 use Rattle.dap_frame.specs.declared.fault.FrameFault.{FrameFault}
 use Rattle.dap_frame.specs.declared.fault.FrameFault.TheVariants as frame
@@ -87,4 +87,4 @@ Stops (Faulty f) bytes = Unit {0}
 -- `size` bytes later, and putting the messages before what comes of it, is reading from `header` and `bytes`.
 pub record Passes (header : Header) (bytes : List ℕ) (messages : List (List ℕ)) (size : ℕ) (header' : Header) (bytes' : List ℕ) : Type 0 where
   pub on : (start at : ℕ) (more : List ℕ) (contents : List (List ℕ)) (end : End) → at ≡ start + size →
-    Reads at header' (bytes' ++ more) contents end → Reads start header (bytes ++ more) (messages ++ contents) end
+      Reads at header' (bytes' ++ more) contents end → Reads start header (bytes ++ more) (messages ++ contents) end

@@ -10,9 +10,12 @@ mod header;
 mod line;
 mod memory;
 mod scan;
-//mod write;
+mod write;
 
 pub use fault::FrameFault;
 pub use framer::Framer;
 pub use memory::Memory;
-//pub use write::frame;
+pub use write::frame;
+
+#[cfg(test)]
+mod tests;

@@ -19,7 +19,10 @@ enum Part {
     },
     /// A fault, or the part of a message with the header as far as its lines are whole, and the
     /// bytes after these.
-    Unfinished { header: Header, rest: Vec<u8> },
+    Unfinished {
+        header: Header,
+        rest: Vec<u8>,
+    },
 }
 
 /// The messages that bytes end, and what they begin after these.

@@ -6,4 +6,4 @@ use Rattle.dap_frame.proofs.framer.Framer.feed.Goals as goal
 pub returns-in-Some-clause-read : goal.returns-in-Some-clause-read
 returns-in-Some-clause-read c = λ real stream taken short before.
     after_fault c.args.self.now stream c.args.piece.now taken c.in-Some.fault before
-      (sym (ap (λ (v : Framing). v.fault) c.self.view_is) ∙ c.in-Some.is)
+    (sym (ap (λ (v : Framing). v.fault) c.self.view_is) ∙ c.in-Some.is)
