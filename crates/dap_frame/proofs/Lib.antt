@@ -4,3 +4,5 @@ pub mod Reading
 pub mod Scanning
 pub mod Advancing
 pub mod Framings
+pub mod Readings
+pub mod Spellings

@@ -7,6 +7,7 @@ mod bytes;
 mod fault;
 mod framer;
 mod header;
+pub mod laws;
 mod line;
 mod memory;
 mod scan;
