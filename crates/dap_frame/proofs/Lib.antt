@@ -6,3 +6,4 @@ pub mod Advancing
 pub mod Framings
 pub mod Readings
 pub mod Spellings
+pub mod Frames

@@ -24,7 +24,7 @@ use Rattle.dap_frame.proofs.Reading.{passes_none, passes_then, passes_line, pass
 abbrev is_colon : ℕ → Bool
 is_colon b = b == 58
 
-abbrev is_text : ℕ → Bool
+abbrev pub is_text : ℕ → Bool
 is_text b = not (b == 13) && not (b == 10)
 
 -- A name and a value have no LF.
