@@ -9,7 +9,7 @@ use Rattle.dap_frame.specs.declared.header.Header.{Header}
 use Rattle.dap_frame.specs.declared.header.Header.TheVariants.{Open, Ended, Faulty}
 use Rattle.dap_frame.specs.declared.scan.Scan.{Scan}
 use Rattle.dap_frame.specs.Header.{HasNoLf, size_of, IsBounded, judged, nothing_said}
-use Rattle.dap_frame.specs.Stream.{Passes, Stops, IsLinePart}
+use Rattle.dap_frame.specs.Part.{Passes, Stops, IsLinePart}
 use Rattle.dap_frame.specs.Scan.{contents, LeadsTo, IsScan}
 use Rattle.dap_frame.specs.Advance.{FillsContent}
 use Rattle.dap_frame.proofs.Headers.{size_most, judged_size}

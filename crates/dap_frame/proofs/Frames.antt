@@ -1,6 +1,6 @@
 -- What is framed is a message.
-use Rattle.std.proofs.Common.{◌≡◌, ℕ, suc, ◌+◌, ◌-◌, ◌*◌, ◌<◌, ◌≤◌, ◌^◌, Bool, true, false, cond, List, [], ◌∷◌, ◌++◌, length, reverse, refl, sym, ◌∙◌, ap, subst, arith, rules, append_assoc, append-nil, length-append}
-use Rattle.std.specs.Prelude.{◌==◌, ◌&&◌, not, nat_le, nat_lt, codes, decimal, map, fold}
+use Rattle.std.proofs.Common.{◌≡◌, ℕ, suc, ◌+◌, ◌-◌, ◌*◌, ◌<◌, ◌≤◌, ◌^◌, Bool, true, false, List, [], ◌∷◌, ◌++◌, length, reverse, refl, ◌∙◌, ap, subst, arith, rules, append_assoc, length-append}
+use Rattle.std.specs.Prelude.{◌==◌, ◌&&◌, not, nat_le, codes, decimal, map, fold}
 use Rattle.std.specs.Char.{is_ascii_digit}
 use Rattle.std.specs.List.{list_all, flat_map, AllByRecursion}
 use Rattle.std.proofs.lemmas.Bool.{cond-true, cond-false, le-leb, and_parts, and_from, leb-true, ne_eqb, or_from, not_from_false}
@@ -8,15 +8,15 @@ use Rattle.std.proofs.lemmas.Fmt.{digits_decimal, digits_value-decimal, length-d
 use Rattle.std.proofs.lemmas.List.{reverse-reverse, reverse-append}
 use Rattle.std.proofs.lemmas.List.Folds.{list_all-append}
 use Rattle.std.proofs.lemmas.Str.Parse.{IsNumeralModel, numerals_by_fold}
-use Rattle.dap_frame.specs.declared.header.TheConstants.{MAX_HEADER, MAX_CONTENT}
+use Rattle.dap_frame.specs.declared.header.TheConstants.{MAX_CONTENT}
 use Rattle.dap_frame.specs.declared.line.Line.{Line}
-use Rattle.dap_frame.specs.declared.line.Line.TheVariants.{Empty, Length, Other, Malformed}
+use Rattle.dap_frame.specs.declared.line.Line.TheVariants.{Length, Malformed}
 use Rattle.dap_frame.specs.declared.header.Header.TheVariants.{Open}
 use Rattle.dap_frame.specs.Header.{nothing_said}
-use Rattle.dap_frame.specs.Line.{is_name, is_value, is_length_name, is_blank, drop_blanks, trimmed, is_number, number_of, length_line, field_of}
+use Rattle.dap_frame.specs.Line.{is_value, is_blank, drop_blanks, trimmed, is_number, number_of, length_line, field_of}
 use Rattle.dap_frame.specs.Frame.{framed}
 use Rattle.dap_frame.specs.Stream.{Reads, whole}
-use Rattle.dap_frame.specs.Grammar.{Field, field_text, field_line, lengths, length_in, is_sound, IsField, Spelled, header_text, spelling, IsContent, IsSpelled}
+use Rattle.dap_frame.specs.Grammar.{Field, field_text, field_line, length_in, is_sound, Spelled, spelling, IsContent, IsSpelled}
 use Rattle.dap_frame.proofs.Spellings.{is_text, reads_messages}
 
 abbrev digits_after : ℕ → List ℕ → ℕ
@@ -50,8 +50,8 @@ text_digits (b ∷ ds) all =
     let parts = and_parts (is_ascii_digit b) (list_all is_ascii_digit ds) all in
     let r = digit_range b parts.0 in
     and_from (is_text b) (list_all is_text ds)
-      (and_from (not (b == 13)) (not (b == 10)) (not_from_false (b == 13) (ne_eqb b 13 (λ e. omega arith))) (not_from_false (b == 10) (ne_eqb b 10 (λ e. omega arith))))
-      (text_digits ds parts.1)
+    (and_from (not (b == 13)) (not (b == 10)) (not_from_false (b == 13) (ne_eqb b 13 (λ e. omega arith))) (not_from_false (b == 10) (ne_eqb b 10 (λ e. omega arith))))
+    (text_digits ds parts.1)
 
 trimmed-digits : (ds : List ℕ) → list_all is_ascii_digit ds ≡ true → trimmed (32 ∷ ds) ≡ ds
 trimmed-digits ds all =
@@ -70,8 +70,8 @@ length_field n fits =
     let long : length ds ≤ 7 = length-decimal-le 7 n (omega arith) (omega arith) small in
     let some : 0 < length ds = decimal_nonempty n small in
     let number : is_number ds ≡ true =
-      and_from (nat_le 1 (length ds) && nat_le (length ds) 10) (list_all is_ascii_digit ds)
-        (and_from (nat_le 1 (length ds)) (nat_le (length ds) 10) (le-leb 1 (length ds) (omega arith)) (le-leb (length ds) 10 (omega arith))) all in
+    and_from (nat_le 1 (length ds) && nat_le (length ds) 10) (list_all is_ascii_digit ds)
+    (and_from (nat_le 1 (length ds)) (nat_le (length ds) 10) (le-leb 1 (length ds) (omega arith)) (le-leb (length ds) 10 (omega arith))) all in
     cond-true (is_value (32 ∷ ds)) (length_line (trimmed (32 ∷ ds))) Malformed (text_digits ds all)
     ∙ ap length_line (trimmed-digits ds all)
     ∙ cond-true (is_number ds) (Length (number_of ds)) Malformed number
@@ -107,15 +107,17 @@ spelling_is content =
 pub reads_frames : (start : ℕ) (contents : List (List ℕ)) → AllByRecursion IsContent contents → Reads start (Open nothing_said) (flat_map framed contents) contents whole
 reads_frames start contents each =
     subst (λ (bytes : List ℕ). Reads start (Open nothing_said) bytes contents whole) (spellings contents)
-      (subst (λ (cs : List (List ℕ)). Reads start (Open nothing_said) (flat_map spelling (map spelled_of contents)) cs whole) (contents_of contents)
-        (reads_messages start (map spelled_of contents) (all_spelled contents each)))
+    (subst (λ (cs : List (List ℕ)). Reads start (Open nothing_said) (flat_map spelling (map spelled_of contents)) cs whole) (contents_of contents)
+    (reads_messages start (map spelled_of contents) (all_spelled contents each)))
   where
     spellings : (cs : List (List ℕ)) → flat_map spelling (map spelled_of cs) ≡ flat_map framed cs
     spellings [] = refl
     spellings (c ∷ cs) = ap (λ (bytes : List ℕ). bytes ++ flat_map spelling (map spelled_of cs)) (spelling_is c) ∙ ap (λ (bytes : List ℕ). framed c ++ bytes) (spellings cs)
+
     contents_of : (cs : List (List ℕ)) → map (λ m. m.content) (map spelled_of cs) ≡ cs
     contents_of [] = refl
     contents_of (c ∷ cs) = ap (λ (ds : List (List ℕ)). c ∷ ds) (contents_of cs)
+
     all_spelled : (cs : List (List ℕ)) → AllByRecursion IsContent cs → AllByRecursion IsSpelled (map spelled_of cs)
     all_spelled [] all = tt
     all_spelled (c ∷ cs) all = (spelled c all.0, all_spelled cs all.1)

@@ -6,7 +6,8 @@ use Rattle.dap_frame.specs.declared.header.HeaderFault.{HeaderFault}
 use Rattle.dap_frame.specs.declared.header.Header.{Header}
 use Rattle.dap_frame.specs.declared.header.Header.TheVariants.{Open, Ended, Faulty}
 use Rattle.dap_frame.specs.Header.{size_of, IsBounded}
-use Rattle.dap_frame.specs.Stream.{Next, End, Ends, failed, told, end_within, Reads, AreMessages, IsUnfinished, Stops, Passes}
+use Rattle.dap_frame.specs.Stream.{Next, End, Ends, failed, told, Reads, AreMessages}
+use Rattle.dap_frame.specs.Part.{end_within, IsUnfinished, Stops, Passes}
 use Rattle.dap_frame.specs.declared.scan.Scan.{Scan}
 use Rattle.dap_frame.specs.declared.advance.Progress.{Progress}
 use Rattle.dap_frame.specs.Advance.{IsProgress}

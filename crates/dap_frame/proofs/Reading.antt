@@ -11,7 +11,8 @@ use Rattle.dap_frame.specs.declared.header.HeaderFault.TheVariants.{Bad}
 use Rattle.dap_frame.specs.declared.header.Header.{Header}
 use Rattle.dap_frame.specs.declared.header.Header.TheVariants.{Open, Ended, Faulty}
 use Rattle.dap_frame.specs.Header.{HasNoLf, lines_of, size_of, judged, nothing_said, after_line, header_on}
-use Rattle.dap_frame.specs.Stream.{Next, message, unfinished, fault, content_at, next_by, next_from, told, End, failed, end_after, Ends, Reads, IsUnfinished, end_within, Passes}
+use Rattle.dap_frame.specs.Stream.{Next, message, unfinished, fault, content_at, next_by, next_from, told, End, failed, end_after, Ends, Reads}
+use Rattle.dap_frame.specs.Part.{IsUnfinished, end_within, Passes}
 use Rattle.dap_frame.proofs.Headers.{judged_size, fold-fault, fold-ended, fold_grows, header_on-line}
 use Rattle.dap_frame.proofs.Lines.{lines_of-part}
 

@@ -1,16 +1,15 @@
 -- A stream has one reading.
-use Rattle.std.proofs.Common.{◌≡◌, ℕ, zero, suc, ◌+◌, ◌-◌, ◌<◌, ◌≤◌, Bool, true, false, cond, inl, inr, ◌⊎◌, List, [], ◌∷◌, ◌++◌, length, take, drop, refl, sym, ◌∙◌, ap, subst, arith}
+use Rattle.std.proofs.Common.{◌≡◌, ℕ, zero, suc, ◌+◌, ◌-◌, ◌<◌, ◌≤◌, inl, inr, List, [], ◌∷◌, length, take, drop, refl, sym, ◌∙◌, ap, subst, arith}
 use Rattle.std.specs.Prelude.{nat_le, nat_lt, fold}
-use Rattle.std.proofs.lemmas.Bool.{cases_Bool, cond-true, cond-false, leb-true, leb-false}
+use Rattle.std.proofs.lemmas.Bool.{cases_Bool, cond-true, cond-false, leb-true}
 use Rattle.std.proofs.lemmas.List.{length-drop, nil_from_length}
 use Rattle.dap_frame.specs.declared.header.TheConstants.{MAX_HEADER}
 use Rattle.dap_frame.specs.declared.header.Head.{Head}
-use Rattle.dap_frame.specs.declared.header.HeaderFault.{HeaderFault}
 use Rattle.dap_frame.specs.declared.header.HeaderFault.TheVariants.{Bad}
 use Rattle.dap_frame.specs.declared.header.Header.{Header}
 use Rattle.dap_frame.specs.declared.header.Header.TheVariants.{Open, Ended, Faulty}
 use Rattle.dap_frame.specs.Header.{lines_of, size_of, judged, nothing_said, after_line, header_on}
-use Rattle.dap_frame.specs.Stream.{Next, message, unfinished, fault, content_at, next_by, next_from, told, End, whole, inside, failed, end_after, Ends, Reads, AreMessages}
+use Rattle.dap_frame.specs.Stream.{Next, message, unfinished, fault, next_by, next_from, told, End, whole, failed, end_after, Ends, Reads, AreMessages}
 use Rattle.dap_frame.proofs.Headers.{judged_size, fold-fault, fold_grows}
 
 ends_one : (start n : ℕ) (next : Next) (e f : End) → Ends start n next e → Ends start n next f → e ≡ f
@@ -32,7 +31,7 @@ reads_one start h bytes (c ∷ cs) (d ∷ ds) e f here there =
     let content : c ≡ d = cc in
     let size : there.0 ≡ here.0 = cc in
     let on : Reads (start + size_of h + here.0) (Open nothing_said) (drop here.0 bytes) ds f =
-      subst (λ (k : ℕ). Reads (start + size_of h + k) (Open nothing_said) (drop k bytes) ds f) size there.2 in
+    subst (λ (k : ℕ). Reads (start + size_of h + k) (Open nothing_said) (drop k bytes) ds f) size there.2 in
     let rest = reads_one (start + size_of h + here.0) (Open nothing_said) (drop here.0 bytes) cs ds e f here.2 on in
     (let tail : cs ≡ ds = rest.0 in cc, rest.1)
 
@@ -41,27 +40,27 @@ ended_later : (head : Head) (lines : List (List ℕ)) (size n : ℕ) → fold af
 ended_later head [] size n is = absurd (cc)
 ended_later head (line ∷ lines) size n is =
     elim (judged_size head line) [
-      inl sized ↦ omega (arith, sized, fold_grows (judged head line) lines size n is)
-    | inr faulty ↦ absurd (let e : fold after_line (judged head line) lines ≡ Faulty faulty.0 = ap (λ (h : Header). fold after_line h lines) faulty.1 ∙ fold-fault faulty.0 lines in cc)
+      | inl sized ↦ omega (arith, sized, fold_grows (judged head line) lines size n is)
+      | inr faulty ↦ absurd (let e : fold after_line (judged head line) lines ≡ Faulty faulty.0 = ap (λ (h : Header). fold after_line h lines) faulty.1 ∙ fold-fault faulty.0 lines in cc)
     ]
 
 -- A message that comes next has bytes, and they are there.
 message_fits : (bytes content : List ℕ) (k : ℕ) (h : Header) → header_on (Open nothing_said) bytes ≡ h → next_by 0 bytes h ≡ message content k → (0 < k) × (k ≤ length bytes)
 message_fits bytes content k (Open head) is next =
     elim (cases_Bool (nat_lt (0 + length bytes) MAX_HEADER)) [
-      inl short ↦ absurd (let e = sym (cond-true (nat_lt (0 + length bytes) MAX_HEADER) unfinished (fault (Bad 0)) short) ∙ next in cc)
-    | inr long ↦ absurd (let e = sym (cond-false (nat_lt (0 + length bytes) MAX_HEADER) unfinished (fault (Bad 0)) long) ∙ next in cc)
+      | inl short ↦ absurd (let e = sym (cond-true (nat_lt (0 + length bytes) MAX_HEADER) unfinished (fault (Bad 0)) short) ∙ next in cc)
+      | inr long ↦ absurd (let e = sym (cond-false (nat_lt (0 + length bytes) MAX_HEADER) unfinished (fault (Bad 0)) long) ∙ next in cc)
     ]
 message_fits bytes content k (Ended size n) is next =
     let later : 0 < size = ended_later nothing_said (lines_of (take (MAX_HEADER - 0) bytes)) size n is in
     let skip : ℕ = size - 0 in
     elim (cases_Bool (nat_le (skip + n) (length bytes))) [
-      inl fits ↦
-        let e : message (take n (drop skip bytes)) (skip + n) ≡ message content k =
+      | inl fits ↦
+          let e : message (take n (drop skip bytes)) (skip + n) ≡ message content k =
           sym (cond-true (nat_le (skip + n) (length bytes)) (message (take n (drop skip bytes)) (skip + n)) unfinished fits) ∙ next in
-        let size_is : skip + n ≡ k = cc in
-        (omega arith, omega (arith, leb-true (skip + n) (length bytes) fits))
-    | inr short ↦ absurd (let e = sym (cond-false (nat_le (skip + n) (length bytes)) (message (take n (drop skip bytes)) (skip + n)) unfinished short) ∙ next in cc)
+          let size_is : skip + n ≡ k = cc in
+          (omega arith, omega (arith, leb-true (skip + n) (length bytes) fits))
+      | inr short ↦ absurd (let e = sym (cond-false (nat_le (skip + n) (length bytes)) (message (take n (drop skip bytes)) (skip + n)) unfinished short) ∙ next in cc)
     ]
 message_fits bytes content k (Faulty f) is next = absurd (cc)
 

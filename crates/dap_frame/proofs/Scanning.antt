@@ -12,7 +12,7 @@ use Rattle.dap_frame.specs.declared.scan.Part.{Part}
 use Rattle.dap_frame.specs.declared.scan.Part.TheVariants.{Message, Unfinished}
 use Rattle.dap_frame.specs.declared.scan.Scan.{Scan}
 use Rattle.dap_frame.specs.Header.{HasNoLf, size_of, IsBounded, judged, nothing_said}
-use Rattle.dap_frame.specs.Stream.{Passes, Stops}
+use Rattle.dap_frame.specs.Part.{Passes, Stops}
 use Rattle.dap_frame.specs.Scan.{HasNoWholeLine, weight, HasRead, IsWhole, IsRest, IsPart, IsContentPart, contents, HasScanned, IsScan}
 use Rattle.dap_frame.proofs.Headers.{size_most, judged_size, judged_bounded}
 use Rattle.dap_frame.proofs.Lines.{is_lf, IsLineAt, line_at, line_at-take, line_cut, no_line}

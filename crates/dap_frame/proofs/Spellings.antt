@@ -1,10 +1,10 @@
 -- What is spelled as messages is read as these messages.
-use Rattle.std.proofs.Common.{◌≡◌, ℕ, zero, suc, ◌+◌, ◌-◌, ◌<◌, ◌≤◌, Bool, true, false, cond, inl, inr, ◌⊎◌, List, [], ◌∷◌, ◌++◌, length, take, drop, get_or, refl, sym, ◌∙◌, ap, subst, arith, append_assoc, append-nil, length-append}
+use Rattle.std.proofs.Common.{◌≡◌, ℕ, suc, ◌+◌, ◌-◌, ◌≤◌, Bool, true, false, cond, inl, inr, List, [], ◌∷◌, ◌++◌, length, take, drop, get_or, refl, sym, ◌∙◌, ap, subst, arith, append_assoc, append-nil, length-append}
 use Rattle.std.specs.Prelude.{◌==◌, ◌&&◌, not, nat_le, nat_lt, map, position, Option, Some, None, slice_index}
 use Rattle.std.specs.List.{list_any, list_all, flat_map, position_or_len, AllByRecursion}
 use Rattle.std.proofs.lemmas.Bool.{cases_Bool, cond-true, cond-false, le-leb, lt-ltb, and_parts, or_from, leb-true, ne_eqb, eq-eqb, both_ways, not-true}
 use Rattle.std.proofs.lemmas.List.{get_or_at, get_or_append_left, take_at, drop_at}
-use Rattle.std.proofs.lemmas.List.Folds.{list_any_at, list_any-append}
+use Rattle.std.proofs.lemmas.List.Folds.{list_any_at}
 use Rattle.std.proofs.lemmas.List.Sums.{position_or_len_is}
 use Rattle.dap_frame.specs.declared.header.TheConstants.{MAX_HEADER, MAX_CONTENT}
 use Rattle.dap_frame.specs.declared.line.Line.{Line}
@@ -15,8 +15,9 @@ use Rattle.dap_frame.specs.declared.header.HeaderFault.TheVariants.{TooLong}
 use Rattle.dap_frame.specs.declared.header.Header.{Header}
 use Rattle.dap_frame.specs.declared.header.Header.TheVariants.{Open, Ended, Faulty}
 use Rattle.dap_frame.specs.Line.{is_visible, is_name, is_value, is_length_name, trimmed, length_line, field_of, field_at, field_line as line_field, text_line, line_of}
-use Rattle.dap_frame.specs.Header.{HasNoLf, size_of, ended, ended_by, given, judged_by, judged, nothing_said}
-use Rattle.dap_frame.specs.Stream.{Passes, Reads, whole, AreMessages}
+use Rattle.dap_frame.specs.Header.{HasNoLf, ended, ended_by, given, judged_by, judged, nothing_said}
+use Rattle.dap_frame.specs.Stream.{Reads, whole}
+use Rattle.dap_frame.specs.Part.{Passes}
 use Rattle.dap_frame.specs.Grammar.{Field, field_text, field_line, length_in, is_sound, lengths, IsField, Spelled, header_text, spelling, IsSpelled}
 use Rattle.dap_frame.proofs.Lines.{is_lf, no_lf-append}
 use Rattle.dap_frame.proofs.Reading.{passes_none, passes_then, passes_line, passes_content}
@@ -45,15 +46,15 @@ value_no_lf (b ∷ value) all =
 sound_parts : (name value : List ℕ) → is_sound (field_of name value) ≡ true → (is_name name ≡ true) × (is_value value ≡ true)
 sound_parts name value sound =
     elim (cases_Bool (is_name name && is_value value)) [
-      inl both ↦ and_parts (is_name name) (is_value value) both
-    | inr not_both ↦ absurd (let e = ap is_sound (cond-false (is_name name && is_value value) (cond (is_length_name name) (length_line (trimmed value)) Other) Malformed not_both) in cc)
+      | inl both ↦ and_parts (is_name name) (is_value value) both
+      | inr not_both ↦ absurd (let e = ap is_sound (cond-false (is_name name && is_value value) (cond (is_length_name name) (length_line (trimmed value)) Other) Malformed not_both) in cc)
     ]
 
 field_no_lf : (f : Field) → IsField f → HasNoLf (field_text f)
 field_no_lf f is =
     let parts : (is_name f.name ≡ true) × (is_value f.value ≡ true) = sound_parts f.name f.value is.sound in
     no_lf-append f.name (58 ∷ (f.value ++ 13 ∷ [])) (visible_no_lf f.name (and_parts (nat_lt 0 (length f.name)) (list_all is_visible f.name) parts.0).1)
-      (no_lf-append f.value (13 ∷ []) (value_no_lf f.value parts.1) refl)
+    (no_lf-append f.value (13 ∷ []) (value_no_lf f.value parts.1) refl)
 
 -- What a line says that ends with a CR.
 line_of-text : (text : List ℕ) → line_of (text ++ 13 ∷ []) ≡ text_line text
@@ -70,15 +71,15 @@ colon_at name value none =
     let text : List ℕ = name ++ 58 ∷ value in
     let long : length text ≡ length name + suc (length value) = length-append name (58 ∷ value) in
     let place : position_or_len is_colon text ≡ length name =
-      position_or_len_is is_colon text (length name) 0 (omega arith)
-        (λ k below. ap is_colon (get_or_append_left name (58 ∷ value) 0 k below)
-          ∙ elim (cases_Bool (is_colon (get_or name k 0))) [
-              inl colon ↦ absurd (both_ways (list_any is_colon name) none (list_any_at is_colon name k 0 below colon))
-            | inr other ↦ other
-            ])
-        (λ _. ap is_colon (get_or_at name 58 value 0 (length name) refl)) in
+    position_or_len_is is_colon text (length name) 0 (omega arith)
+    (λ k below. ap is_colon (get_or_append_left name (58 ∷ value) 0 k below)
+    ∙ elim (cases_Bool (is_colon (get_or name k 0))) [
+      | inl colon ↦ absurd (both_ways (list_any is_colon name) none (list_any_at is_colon name k 0 below colon))
+      | inr other ↦ other
+    ])
+    (λ _. ap is_colon (get_or_at name 58 value 0 (length name) refl)) in
     cond-true (nat_lt (position_or_len is_colon text) (length text)) (Some (position_or_len is_colon text)) None
-      (lt-ltb (position_or_len is_colon text) (length text) (omega arith))
+    (lt-ltb (position_or_len is_colon text) (length text) (omega arith))
     ∙ ap Some place
 
 text_line-field : (name value : List ℕ) → text_line (name ++ 58 ∷ value) ≡ line_field (name ++ 58 ∷ value)
@@ -89,8 +90,8 @@ line_of-field : (f : Field) → IsField f → line_of (field_text f) ≡ field_o
 line_of-field f is =
     let text : List ℕ = f.name ++ 58 ∷ f.value in
     let behind : drop (length f.name + 1) text ≡ f.value =
-      ap (drop (length f.name + 1)) (sym (append_assoc f.name (58 ∷ []) f.value))
-      ∙ drop_at (f.name ++ 58 ∷ []) f.value (length f.name + 1) (length-append f.name (58 ∷ [])) in
+    ap (drop (length f.name + 1)) (sym (append_assoc f.name (58 ∷ []) f.value))
+    ∙ drop_at (f.name ++ 58 ∷ []) f.value (length f.name + 1) (length-append f.name (58 ∷ [])) in
     ap line_of (sym (append_assoc f.name (58 ∷ f.value) (13 ∷ [])))
     ∙ line_of-text text ∙ text_line-field f.name f.value
     ∙ ap (field_at text) (colon_at f.name f.value is.no_colon)
@@ -147,16 +148,16 @@ reads_lines (f ∷ fields) head rest n each once short =
     let all_long : length (header_text (f ∷ fields)) ≡ length (field_line f) + length (header_text fields) = length-append (field_line f) (header_text fields) in
     let size : ℕ = head.size + length text + 1 in
     let next : StaysOpen (judged_by head size (field_of f.name f.value)) size (lengths fields) n =
-      sound_open head size n (lengths fields) (field_of f.name f.value) each.0.sound once in
+    sound_open head size n (lengths fields) (field_of f.name f.value) each.0.sound once in
     let judged_is : judged head text ≡ Open next.head = ap (judged_by head size) (line_of-field f each.0) ∙ next.is in
     let size_is : next.head.size ≡ size = next.size_is in
     let tail : ReadsLines next.head fields rest n = reads_lines fields next.head rest n each.1 next.once (omega arith) in
     let spelled : text ++ 10 ∷ behind ≡ header_text (f ∷ fields) ++ rest =
-      sym (append_assoc text (10 ∷ []) behind) ∙ sym (append_assoc (field_line f) (header_text fields) rest) in
+    sym (append_assoc text (10 ∷ []) behind) ∙ sym (append_assoc (field_line f) (header_text fields) rest) in
     let first : Passes (Open head) (header_text (f ∷ fields) ++ rest) [] 0 (Open next.head) behind =
-      subst (λ (bytes : List ℕ). Passes (Open head) bytes [] 0 (Open next.head) behind) spelled
-        (subst (λ (h : Header). Passes (Open head) (text ++ 10 ∷ behind) [] 0 h behind) judged_is
-          (passes_line head text behind (field_no_lf f each.0) (omega arith))) in
+    subst (λ (bytes : List ℕ). Passes (Open head) bytes [] 0 (Open next.head) behind) spelled
+    (subst (λ (h : Header). Passes (Open head) (text ++ 10 ∷ behind) [] 0 h behind) judged_is
+    (passes_line head text behind (field_no_lf f each.0) (omega arith))) in
     record {
       reached = tail.reached;
       size_is = omega (arith, tail.size_is);
@@ -180,11 +181,11 @@ reads_message m rest is =
     let size : ℕ = lines.reached.size + 1 + 1 in
     let size_is : lines.reached.size ≡ 0 + length (header_text m.fields) = lines.size_is in
     let blank : Passes (Open lines.reached) behind [] 0 (Ended size n) (m.content ++ rest) =
-      subst (λ (h : Header). Passes (Open lines.reached) behind [] 0 h (m.content ++ rest)) (ended_open lines.reached size n lines.reached.length lines.once is.content)
-        (passes_line lines.reached (13 ∷ []) (m.content ++ rest) refl (omega (arith, is.short))) in
+    subst (λ (h : Header). Passes (Open lines.reached) behind [] 0 h (m.content ++ rest)) (ended_open lines.reached size n lines.reached.length lines.once is.content)
+    (passes_line lines.reached (13 ∷ []) (m.content ++ rest) refl (omega (arith, is.short))) in
     let spelled : header_text m.fields ++ behind ≡ spelling m ++ rest = sym (append_assoc (header_text m.fields) (13 ∷ 10 ∷ m.content) rest) in
     let way = passes_then (Open nothing_said) (Open lines.reached) (Open nothing_said) (header_text m.fields ++ behind) behind rest [] (m.content ∷ []) 0 (0 + (size + n)) lines.passes
-      (passes_then (Open lines.reached) (Ended size n) (Open nothing_said) behind (m.content ++ rest) rest [] (m.content ∷ []) 0 (size + n) blank (passes_content size n m.content rest refl)) in
+    (passes_then (Open lines.reached) (Ended size n) (Open nothing_said) behind (m.content ++ rest) rest [] (m.content ∷ []) 0 (size + n) blank (passes_content size n m.content rest refl)) in
     (0 + (0 + (size + n)), subst (λ (bytes : List ℕ). Passes (Open nothing_said) bytes (m.content ∷ []) (0 + (0 + (size + n))) (Open nothing_said) rest) spelled way)
 
 pub reads_messages : (start : ℕ) (messages : List Spelled) → AllByRecursion IsSpelled messages →
@@ -194,6 +195,6 @@ reads_messages start (m ∷ messages) each =
     let rest : List ℕ = flat_map spelling messages in
     let way = reads_message m rest each.0 in
     let tail : Reads (start + way.0) (Open nothing_said) (rest ++ []) (map (λ m. m.content) messages) whole =
-      subst (λ (bytes : List ℕ). Reads (start + way.0) (Open nothing_said) bytes (map (λ m. m.content) messages) whole) (sym (append-nil rest)) (reads_messages (start + way.0) messages each.1) in
+    subst (λ (bytes : List ℕ). Reads (start + way.0) (Open nothing_said) bytes (map (λ m. m.content) messages) whole) (sym (append-nil rest)) (reads_messages (start + way.0) messages each.1) in
     subst (λ (bytes : List ℕ). Reads start (Open nothing_said) bytes (m.content ∷ map (λ m. m.content) messages) whole) (append-nil (spelling m ++ rest))
-      (way.1.on start (start + way.0) [] (map (λ m. m.content) messages) whole refl tail)
+    (way.1.on start (start + way.0) [] (map (λ m. m.content) messages) whole refl tail)

@@ -4,7 +4,7 @@ use Rattle.dap_frame.specs.declared.header.Header.{Header}
 use Rattle.dap_frame.specs.declared.scan.Scan.{Scan}
 use Rattle.dap_frame.specs.declared.advance.Progress.{Progress}
 use Rattle.dap_frame.specs.declared.advance.Progress.TheVariants.{Grows, Reads, Fills}
-use Rattle.dap_frame.specs.Stream.{IsUnfinished}
+use Rattle.dap_frame.specs.Part.{IsUnfinished}
 use Rattle.dap_frame.specs.Scan.{contents, LeadsTo}
 
 -- the first missing bytes of the piece fill the content

@@ -7,7 +7,8 @@ use Rattle.dap_frame.specs.declared.fault.FrameFault.TheVariants.{Memory}
 use Rattle.dap_frame.specs.declared.header.Header.{Header}
 use Rattle.dap_frame.specs.declared.header.Header.TheVariants.{Open, Ended, Faulty}
 use Rattle.dap_frame.specs.Header.{size_of, IsBounded}
-use Rattle.dap_frame.specs.Stream.{End, failed, told, end_within, Reads, AreMessages, IsUnfinished}
+use Rattle.dap_frame.specs.Stream.{End, failed, told, Reads, AreMessages}
+use Rattle.dap_frame.specs.Part.{end_within, IsUnfinished}
 
 -- A framer as its callers see it: the whole messages that are still to be taken; of the next one, the
 -- place where it begins, its header as far as its lines are whole, and the bytes after these; and the

@@ -4,7 +4,7 @@ use Rattle.std.specs.List.{list_any, flat_map, AllByRecursion}
 use Rattle.dap_frame.specs.declared.header.TheConstants.{MAX_HEADER, MAX_CONTENT}
 use Rattle.dap_frame.specs.declared.line.Line.{Line}
 use Rattle.dap_frame.specs.declared.line.Line.TheVariants.{Empty, Length, Other, Malformed}
-use Rattle.dap_frame.specs.Line.{is_name, is_value, field_of}
+use Rattle.dap_frame.specs.Line.{field_of}
 
 -- a header line: NAME:VALUE and CR LF
 pub record Field : Type 0 where

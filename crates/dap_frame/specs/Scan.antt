@@ -8,7 +8,7 @@ use Rattle.dap_frame.specs.declared.scan.Part.{Part}
 use Rattle.dap_frame.specs.declared.scan.Part.TheVariants.{Message, Unfinished}
 use Rattle.dap_frame.specs.declared.scan.Scan.{Scan}
 use Rattle.dap_frame.specs.Header.{HasNoLf, nothing_said, size_of, IsBounded}
-use Rattle.dap_frame.specs.Stream.{Passes, Stops}
+use Rattle.dap_frame.specs.Part.{Passes, Stops}
 
 abbrev pub contents : List (Vec ℕ) → List (List ℕ)
 contents messages = map (λ message. message.items) messages

@@ -1,14 +1,13 @@
 -- The messages of a stream, and how it ends.
-use Rattle.std.specs.Prelude.{◌≡◌, ℕ, ◌+◌, ◌-◌, ◌<◌, ◌==◌, nat_le, nat_lt, if◌then◌else◌, List, [], ◌∷◌, ◌++◌, length, take, drop}
+use Rattle.std.specs.Prelude.{◌≡◌, ℕ, ◌+◌, ◌-◌, ◌==◌, nat_le, nat_lt, if◌then◌else◌, List, [], ◌∷◌, length, take, drop}
 use Rattle.dap_frame.specs.declared.header.TheConstants.{MAX_HEADER}
 use Rattle.dap_frame.specs.declared.fault.FrameFault.{FrameFault}
 use Rattle.dap_frame.specs.declared.fault.FrameFault.TheVariants as frame
-use Rattle.dap_frame.specs.declared.header.Head.{Head}
 use Rattle.dap_frame.specs.declared.header.HeaderFault.{HeaderFault}
 use Rattle.dap_frame.specs.declared.header.HeaderFault.TheVariants.{Bad, TooLong}
 use Rattle.dap_frame.specs.declared.header.Header.{Header}
 use Rattle.dap_frame.specs.declared.header.Header.TheVariants.{Open, Ended, Faulty}
-use Rattle.dap_frame.specs.Header.{HasNoLf, nothing_said, size_of, header_on}
+use Rattle.dap_frame.specs.Header.{nothing_said, size_of, header_on}
 
 -- What bytes make of the message that they go on with: its content, with the number of the bytes up
 -- to its end; less than a whole message; or a fault.
@@ -63,28 +62,3 @@ Reads start header bytes (content ∷ contents) end =
 -- The messages of a stream are these, and it ends so.
 abbrev pub AreMessages : List ℕ → List (List ℕ) → End → Type 0
 AreMessages stream contents end = Reads 0 (Open nothing_said) stream contents end
-
--- These bytes of a header without an LF, or of a content, are less than what is to come of it.
-pub record IsLinePart (head : Head) (bytes : List ℕ) : Type 0 where
-  pub no_lf : HasNoLf bytes
-  pub short : head.size + length bytes < MAX_HEADER
-
-abbrev pub IsUnfinished : Header → List ℕ → Type 0
-IsUnfinished (Open head) bytes = IsLinePart head bytes
-IsUnfinished (Ended size n) bytes = length bytes < n
-IsUnfinished (Faulty f) bytes = ⊥
-
-abbrev pub end_within : Header → List ℕ → End
-end_within header bytes = end_after (size_of header + length bytes)
-
--- what reading stops at: a fault, or less than a whole message
-abbrev pub Stops : Header → List ℕ → Type 0
-Stops (Open head) bytes = IsLinePart head bytes
-Stops (Ended size n) bytes = length bytes < n
-Stops (Faulty f) bytes = Unit {0}
-
--- Whatever comes after the bytes: reading on from `header'` and `bytes'`, in a header that begins
--- `size` bytes later, and putting the messages before what comes of it, is reading from `header` and `bytes`.
-pub record Passes (header : Header) (bytes : List ℕ) (messages : List (List ℕ)) (size : ℕ) (header' : Header) (bytes' : List ℕ) : Type 0 where
-  pub on : (start at : ℕ) (more : List ℕ) (contents : List (List ℕ)) (end : End) → at ≡ start + size →
-      Reads at header' (bytes' ++ more) contents end → Reads start header (bytes ++ more) (messages ++ contents) end

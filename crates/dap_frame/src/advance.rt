@@ -1,6 +1,6 @@
 ghost use Rattle.std.specs.Prelude.{◌+◌, ◌<◌, ◌≤◌, length, ◌++◌, IfOk};
 ghost use Rattle.dap_frame.specs.Header.{IsBounded};
-ghost use Rattle.dap_frame.specs.Stream.{IsLinePart, IsUnfinished};
+ghost use Rattle.dap_frame.specs.Part.{IsLinePart, IsUnfinished};
 ghost use Rattle.dap_frame.specs.Advance.{IsProgress};
 
 use crate::bytes::place_of;

@@ -2,7 +2,6 @@ ghost use Rattle.std.specs.Prelude.{◌≡◌};
 ghost use Rattle.dap_frame.specs.declared.fault.FrameFault.TheVariants as frame;
 
 use crate::memory::Memory;
-use std::alloc::AllocError;
 use thiserror::Error;
 
 /// Why a stream gives no further message. A place is the number of bytes of the stream before it.
@@ -26,14 +25,6 @@ impl From<Memory> for FrameFault {
     ghost from_gives = { λ _ e. e ≡ frame.Memory };
 
     fn from(_error: Memory) -> FrameFault {
-        FrameFault::Memory
-    }
-}
-
-impl From<AllocError> for FrameFault {
-    ghost from_gives = { λ _ e. e ≡ frame.Memory };
-
-    fn from(_error: AllocError) -> FrameFault {
         FrameFault::Memory
     }
 }

@@ -1,7 +1,8 @@
 ghost use Rattle.std.specs.Prelude.{◌≡◌, ℕ, ◌+◌, ◌<◌, ◌≢◌, ◌↔◌, ◌^◌, List, [], ◌∷◌, ◌++◌, Some, None, length, map, take, drop, IsTrue, IsSome, IfSome, IfNone, IfErr, OnOk, OnErr, IsErrOf, true};
 ghost use Rattle.std.specs.VecDeque.{deque_len, deque_capacity};
 ghost use Rattle.dap_frame.specs.Header.{IsBounded};
-ghost use Rattle.dap_frame.specs.Stream.{End, Stops};
+ghost use Rattle.dap_frame.specs.Stream.{End};
+ghost use Rattle.dap_frame.specs.Part.{Stops};
 ghost use Rattle.dap_frame.specs.Scan.{contents};
 ghost use Rattle.dap_frame.specs.Framing.{end_of, fault_in, is_faulty, given, Reaches, Follows, IsAfter};
 

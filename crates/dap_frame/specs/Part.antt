@@ -1,0 +1,33 @@
+-- The part of a message that isn't whole, and reading on from it.
+use Rattle.std.specs.Prelude.{◌≡◌, ℕ, ◌+◌, ◌<◌, List, ◌++◌, length}
+use Rattle.dap_frame.specs.declared.header.TheConstants.{MAX_HEADER}
+use Rattle.dap_frame.specs.declared.header.Head.{Head}
+use Rattle.dap_frame.specs.declared.header.Header.{Header}
+use Rattle.dap_frame.specs.declared.header.Header.TheVariants.{Open, Ended, Faulty}
+use Rattle.dap_frame.specs.Header.{HasNoLf, size_of}
+use Rattle.dap_frame.specs.Stream.{End, end_after, Reads}
+
+-- These bytes of a header without an LF, or of a content, are less than what is to come of it.
+pub record IsLinePart (head : Head) (bytes : List ℕ) : Type 0 where
+  pub no_lf : HasNoLf bytes
+  pub short : head.size + length bytes < MAX_HEADER
+
+abbrev pub IsUnfinished : Header → List ℕ → Type 0
+IsUnfinished (Open head) bytes = IsLinePart head bytes
+IsUnfinished (Ended size n) bytes = length bytes < n
+IsUnfinished (Faulty f) bytes = ⊥
+
+abbrev pub end_within : Header → List ℕ → End
+end_within header bytes = end_after (size_of header + length bytes)
+
+-- what reading stops at: a fault, or less than a whole message
+abbrev pub Stops : Header → List ℕ → Type 0
+Stops (Open head) bytes = IsLinePart head bytes
+Stops (Ended size n) bytes = length bytes < n
+Stops (Faulty f) bytes = Unit {0}
+
+-- Whatever comes after the bytes: reading on from `header'` and `bytes'`, in a header that begins
+-- `size` bytes later, and putting the messages before what comes of it, is reading from `header` and `bytes`.
+pub record Passes (header : Header) (bytes : List ℕ) (messages : List (List ℕ)) (size : ℕ) (header' : Header) (bytes' : List ℕ) : Type 0 where
+  pub on : (start at : ℕ) (more : List ℕ) (contents : List (List ℕ)) (end : End) → at ≡ start + size →
+      Reads at header' (bytes' ++ more) contents end → Reads start header (bytes ++ more) (messages ++ contents) end
