@@ -16,7 +16,7 @@ use Rattle.dap_frame.specs.Header.{nothing_said}
 use Rattle.dap_frame.specs.Line.{is_value, is_blank, drop_blanks, trimmed, is_number, number_of, length_line, field_of}
 use Rattle.dap_frame.specs.Frame.{framed}
 use Rattle.dap_frame.specs.Stream.{Reads, whole}
-use Rattle.dap_frame.specs.Grammar.{Field, field_text, field_line, length_in, is_sound, Spelled, spelling, IsContent, IsSpelled}
+use Rattle.dap_frame.specs.Grammar.{Field, field_text, whole_line, length_in, is_sound, Spelled, spelling, IsContent, IsSpelled}
 use Rattle.dap_frame.proofs.Spellings.{is_text, reads_messages}
 
 abbrev digits_after : ℕ → List ℕ → ℕ
@@ -89,8 +89,8 @@ spelled content fits =
     let field : Field = record { name = length_name; value = value } in
     let text_long : length (field_text field) ≡ 14 + (1 + length (value ++ 13 ∷ [])) = length-append length_name (58 ∷ (value ++ 13 ∷ [])) ∙ (let k : 14 + suc (length (value ++ 13 ∷ [])) ≡ 14 + (1 + length (value ++ 13 ∷ [])) = omega arith in k) in
     let value_long : length (value ++ 13 ∷ []) ≡ length value + 1 = length-append value (13 ∷ []) in
-    let line_long : length (field_line field) ≡ length (field_text field) + 1 = length-append (field_text field) (10 ∷ []) in
-    let all_long : length (field_line field ++ []) ≡ length (field_line field) + 0 = length-append (field_line field) [] in
+    let line_long : length (whole_line field) ≡ length (field_text field) + 1 = length-append (field_text field) (10 ∷ []) in
+    let all_long : length (whole_line field ++ []) ≡ length (whole_line field) + 0 = length-append (whole_line field) [] in
     record {
       each = (record { no_colon = refl; sound = ap is_sound says }, tt);
       once = ap (λ (line : Line). length_in line ++ []) says;

@@ -1,7 +1,7 @@
 -- A scan, step by step.
 use Rattle.std.proofs.Common.{◌≡◌, ℕ, ◌+◌, ◌-◌, ◌<◌, ◌≤◌, List, [], ◌∷◌, ◌++◌, length, take, drop, sym, ◌∙◌, ap, subst, arith}
 use Rattle.std.specs.Prelude.{Some, None, position, min, Result, Ok, Err, IfOk}
-use Rattle.std.proofs.lemmas.List.{drop-drop, length-drop, length-take-le, take_min, take_rest, take_all, take-append-drop, append-nil}
+use Rattle.std.proofs.lemmas.List.{drop-drop, length-drop, length-take-le, take_min, take_rest, take-append-drop, append-nil}
 use Rattle.dap_frame.specs.declared.header.TheConstants.{MAX_HEADER}
 use Rattle.dap_frame.specs.declared.header.Head.{Head}
 use Rattle.dap_frame.specs.declared.header.Header.{Header}
@@ -126,22 +126,6 @@ rest_from_full header bytes head used rest read none full empty = record {
   sizes = let e : length rest ≡ 0 = ap length empty in omega arith;
   most = tt;
 }
-
-pub rest_from_part : (header : Header) (bytes : List ℕ) (head : Head) (used : ℕ) (rest : List ℕ) → HasRead header bytes (Open head) used →
-    HasNoWholeLine (Open head) (drop used bytes) → head.size + length (drop used bytes) < MAX_HEADER → rest ≡ drop used bytes →
-    IsRest header bytes (Open head) rest
-rest_from_part header bytes head used rest read none short is =
-    let left : length (drop used bytes) ≡ length bytes - used = length-drop used bytes in
-    let length_is : length rest ≡ length (drop used bytes) = ap length is in
-    record {
-      passes = subst (λ (xs : List ℕ). Passes header bytes [] 0 (Open head) xs) (sym is) read.passes;
-      stops = record {
-        no_lf = subst HasNoLf (sym is) (subst HasNoLf (take_all (MAX_HEADER - head.size) (drop used bytes) (omega arith)) none);
-        short = omega arith;
-      };
-      sizes = omega (arith, read.sizes, read.within);
-      most = read.most;
-    }
 
 pub rest_from_fault : (header : Header) (bytes : List ℕ) (f : HeaderFault) (used : ℕ) (rest : List ℕ) → HasRead header bytes (Faulty f) used → rest ≡ [] →
     IsRest header bytes (Faulty f) rest

@@ -14,11 +14,11 @@ use Rattle.dap_frame.specs.declared.header.Head.{Head}
 use Rattle.dap_frame.specs.declared.header.HeaderFault.TheVariants.{TooLong}
 use Rattle.dap_frame.specs.declared.header.Header.{Header}
 use Rattle.dap_frame.specs.declared.header.Header.TheVariants.{Open, Ended, Faulty}
-use Rattle.dap_frame.specs.Line.{is_visible, is_name, is_value, is_length_name, trimmed, length_line, field_of, field_at, field_line as line_field, text_line, line_of}
+use Rattle.dap_frame.specs.Line.{is_visible, is_name, is_value, is_length_name, trimmed, length_line, field_of, field_at, field_line, text_line, line_of}
 use Rattle.dap_frame.specs.Header.{HasNoLf, ended, ended_by, given, judged_by, judged, nothing_said}
 use Rattle.dap_frame.specs.Stream.{Reads, whole}
 use Rattle.dap_frame.specs.Part.{Passes}
-use Rattle.dap_frame.specs.Grammar.{Field, field_text, field_line, length_in, is_sound, lengths, IsField, Spelled, header_text, spelling, IsSpelled}
+use Rattle.dap_frame.specs.Grammar.{Field, field_text, whole_line, length_in, is_sound, lengths, IsField, Spelled, header_text, spelling, IsSpelled}
 use Rattle.dap_frame.proofs.Lines.{is_lf, no_lf-append}
 use Rattle.dap_frame.proofs.Reading.{passes_none, passes_then, passes_line, passes_content}
 
@@ -82,7 +82,7 @@ colon_at name value none =
     (lt-ltb (position_or_len is_colon text) (length text) (omega arith))
     ∙ ap Some place
 
-text_line-field : (name value : List ℕ) → text_line (name ++ 58 ∷ value) ≡ line_field (name ++ 58 ∷ value)
+text_line-field : (name value : List ℕ) → text_line (name ++ 58 ∷ value) ≡ field_line (name ++ 58 ∷ value)
 text_line-field [] value = refl
 text_line-field (b ∷ name) value = refl
 
@@ -144,8 +144,8 @@ reads_lines [] head rest n each once short = record {
 reads_lines (f ∷ fields) head rest n each once short =
     let text : List ℕ = field_text f in
     let behind : List ℕ = header_text fields ++ rest in
-    let line_long : length (field_line f) ≡ length text + 1 = length-append text (10 ∷ []) in
-    let all_long : length (header_text (f ∷ fields)) ≡ length (field_line f) + length (header_text fields) = length-append (field_line f) (header_text fields) in
+    let line_long : length (whole_line f) ≡ length text + 1 = length-append text (10 ∷ []) in
+    let all_long : length (header_text (f ∷ fields)) ≡ length (whole_line f) + length (header_text fields) = length-append (whole_line f) (header_text fields) in
     let size : ℕ = head.size + length text + 1 in
     let next : StaysOpen (judged_by head size (field_of f.name f.value)) size (lengths fields) n =
     sound_open head size n (lengths fields) (field_of f.name f.value) each.0.sound once in
@@ -153,7 +153,7 @@ reads_lines (f ∷ fields) head rest n each once short =
     let size_is : next.head.size ≡ size = next.size_is in
     let tail : ReadsLines next.head fields rest n = reads_lines fields next.head rest n each.1 next.once (omega arith) in
     let spelled : text ++ 10 ∷ behind ≡ header_text (f ∷ fields) ++ rest =
-    sym (append_assoc text (10 ∷ []) behind) ∙ sym (append_assoc (field_line f) (header_text fields) rest) in
+    sym (append_assoc text (10 ∷ []) behind) ∙ sym (append_assoc (whole_line f) (header_text fields) rest) in
     let first : Passes (Open head) (header_text (f ∷ fields) ++ rest) [] 0 (Open next.head) behind =
     subst (λ (bytes : List ℕ). Passes (Open head) bytes [] 0 (Open next.head) behind) spelled
     (subst (λ (h : Header). Passes (Open head) (text ++ 10 ∷ behind) [] 0 h behind) judged_is

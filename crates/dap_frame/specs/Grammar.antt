@@ -14,8 +14,8 @@ pub record Field : Type 0 where
 abbrev pub field_text : Field → List ℕ
 field_text f = f.name ++ 58 ∷ (f.value ++ 13 ∷ [])
 
-abbrev pub field_line : Field → List ℕ
-field_line f = field_text f ++ 10 ∷ []
+abbrev pub whole_line : Field → List ℕ
+whole_line f = field_text f ++ 10 ∷ []
 
 -- the length that a line gives
 abbrev pub length_in : Line → List ℕ
@@ -45,7 +45,7 @@ pub record Spelled : Type 0 where
   pub content : List ℕ
 
 abbrev pub header_text : List Field → List ℕ
-header_text fields = flat_map field_line fields
+header_text fields = flat_map whole_line fields
 
 abbrev pub spelling : Spelled → List ℕ
 spelling m = header_text m.fields ++ 13 ∷ 10 ∷ m.content

@@ -34,6 +34,7 @@ size_of (Open head) = head.size
 size_of (Ended size n) = size
 size_of (Faulty fault) = 0
 
+-- what a header may have: bytes, and bytes of content
 abbrev pub IsBounded : Header → Type 0
 IsBounded (Open head) = head.size ≤ MAX_HEADER
 IsBounded (Ended size n) = (size ≤ MAX_HEADER) × (n ≤ MAX_CONTENT)

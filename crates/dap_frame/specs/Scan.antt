@@ -10,6 +10,7 @@ use Rattle.dap_frame.specs.declared.scan.Scan.{Scan}
 use Rattle.dap_frame.specs.Header.{HasNoLf, nothing_said, size_of, IsBounded}
 use Rattle.dap_frame.specs.Part.{Passes, Stops}
 
+-- messages without where they lie in memory
 abbrev pub contents : List (Vec ℕ) → List (List ℕ)
 contents messages = map (λ message. message.items) messages
 
@@ -33,12 +34,14 @@ pub record HasRead (header : Header) (bytes : List ℕ) (reached : Header) (at :
   pub most : IsBounded reached
   pub progress : weight reached ≤ weight header + at
 
+-- the first `used` bytes end a message, which has `size` bytes with all of its header
 pub record IsWhole (header : Header) (bytes content : List ℕ) (size used : ℕ) : Type 0 where
   pub passes : Passes header bytes (content ∷ []) size (Open nothing_said) (drop used bytes)
   pub within : used ≤ length bytes
   pub sizes : size ≤ size_of header + used
   pub progress : 0 < weight header + used
 
+-- the bytes end no message
 pub record IsRest (header : Header) (bytes : List ℕ) (reached : Header) (rest : List ℕ) : Type 0 where
   pub passes : Passes header bytes [] 0 reached rest
   pub stops : Stops reached rest
@@ -69,5 +72,6 @@ pub record LeadsTo (header : Header) (bytes : List ℕ) (messages : List (List �
   pub sizes : scan.start + size_of scan.header + length scan.rest.items ≤ size_of header + length bytes
   pub most : IsBounded scan.header
 
+-- what a scan of the bytes is
 abbrev pub IsScan : Header → List ℕ → Scan → Type 0
 IsScan header bytes scan = LeadsTo header bytes (contents scan.messages.items) scan

@@ -23,10 +23,14 @@ use std::mem;
 #[derive(Drop)]
 pub struct Framer {
     alloc: Global,
+    // The whole messages that were not taken yet.
     messages: VecDeque<Vec<u8>>,
+    // Where the next one begins, its header as far as its lines are whole, and the bytes after these:
+    // a line without its end, or the front of a content. A content has its whole room from the start.
     start: u64,
     header: Header,
     rest: Vec<u8>,
+    // What ended the stream.
     fault: Option<FrameFault>,
 }
 
@@ -60,9 +64,12 @@ impl Framer {
 
     /// The bytes that the stream goes on with.
     ///
-    /// `Ok` where the stream so far has no fault. The messages before a fault are held all the same.
-    /// After a fault each call answers it again and changes nothing, and a call that answers
-    /// `Memory` changes nothing. Places are told of streams shorter than 2^63 bytes.
+    /// `Ok` where the stream so far has no fault; else `BadHeader` or `TooLong`, the first one. The
+    /// messages before it are held all the same. After a fault each call answers it again and
+    /// changes nothing, and so does a call that answers `Memory`. What is said of places holds for
+    /// streams shorter than 2^63 bytes.
+    ///
+    /// No byte is looked at more than a constant number of times, however the stream is cut.
     pub fn feed(&mut self, piece: &[u8]) -> Result<(), FrameFault>
         // What was fed, the piece included, is what the framer stands for.
         ensures read { result ≢ Err FrameFault.Memory → (stream : List ℕ) (taken : List (List ℕ)) →

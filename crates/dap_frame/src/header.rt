@@ -12,7 +12,7 @@ pub const MAX_HEADER: usize = 4096;
 /// The most bytes that a content has.
 pub const MAX_CONTENT: u64 = 1_048_576;
 
-/// A line that gives the length: its place in the header, and the number of bytes.
+/// A line that gives the length: its place in the header, and the number of the content's bytes.
 #[derive(Clone, Copy, Debug, PartialEq, Eq)]
 pub struct LengthLine {
     pub at: u32,
@@ -78,22 +78,18 @@ impl Head {
         requires { self.size + length line.now < MAX_HEADER }
         ensures { result ≡ judged self line.now }
     {
+        let at = self.size as u32;
         let size = self.size + line.len() + 1;
         match (line_of(line), self.length) {
-            (Line::Malformed, _) | (Line::Length(_), Some(_)) | (Line::Empty, None) => {
-                Header::Faulty(HeaderFault::Bad {
-                    at: self.size as u32,
-                })
-            }
+            (Line::Malformed, _) => Header::Faulty(HeaderFault::Bad { at }),
             (Line::Other, length) => Header::Open(Head { size, length }),
             (Line::Length(n), None) => Header::Open(Head {
                 size,
-                length: Some(LengthLine {
-                    at: self.size as u32,
-                    n,
-                }),
+                length: Some(LengthLine { at, n }),
             }),
-            (Line::Empty, Some(LengthLine { at, n })) => ended(size, at, n),
+            (Line::Length(_), Some(_)) => Header::Faulty(HeaderFault::Bad { at }),
+            (Line::Empty, Some(given)) => ended(size, given.at, given.n),
+            (Line::Empty, None) => Header::Faulty(HeaderFault::Bad { at }),
         }
     }
 }

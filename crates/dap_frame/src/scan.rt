@@ -37,8 +37,8 @@ pub struct Scan {
     pub rest: Vec<u8>,
 }
 
-/// Reads bytes that come after a header's whole lines. Each byte is looked at once for the end of a
-/// line, and once more with its line or as a part of a content.
+/// Reads bytes that come after a header's whole lines. A byte is looked at for the end of its line and
+/// when that line is judged, or it is copied once into its content.
 pub fn read_on(alloc: Global, header: Header, bytes: &[u8]) -> Result<Scan, Memory>
     requires { IsBounded header }
     ensures { IfOk result (IsScan header bytes.now) }
