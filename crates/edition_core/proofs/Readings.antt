@@ -1,10 +1,7 @@
 -- What is read from the lists that a table and a program have.
-use Rattle.std.proofs.Common.{◌≡◌, ℕ, suc, ◌+◌, ◌<◌, List, [], ◌∷◌, ◌++◌, length, map, get_or, take, drop, drop-cons, Some, All, slice_get, refl, sym, append_assoc, ap, ◌∙◌, subst, add-one, true, true≢false}
+use Rattle.std.proofs.Common.{◌≡◌, ℕ, suc, ◌+◌, ◌<◌, List, [], ◌∷◌, ◌++◌, length, get_or, take, drop, drop-cons, Some, slice_get, refl, sym, append_assoc, ap, ◌∙◌, add-one, true, true≢false}
 use Rattle.std.proofs.Math.Seq.{take-suc}
-use Rattle.std.proofs.lemmas.List.Elements.{All-get_or}
 use Rattle.std.proofs.lemmas.Option.{get_or_from_slice_get, slice_get_within, slice_get_read}
-use Rattle.std.proofs.lemmas.List.{get_or-map}
-use Rattle.gob_tree.specs.declared.graph.FuncGraph.{FuncGraph}
 use Rattle.gob_tree.specs.declared.unit.Slot.{Slot}
 use Rattle.interval_dom.specs.Bounds.{Bounds}
 use Rattle.state_dom.specs.StateValue.{StateValue, Bottom, Reached, slots_of, is_reached}
@@ -13,10 +10,6 @@ use Rattle.edition_core.specs.Labels.{labels_of, labels_after, label_of, count_o
 use Rattle.edition_core.specs.Printed.{slots_text, slot_text}
 
 module _ {X : Type 0} where
-  pub All_at : (P : X → Type 0) (xs : List X) (i : ℕ) (x : X) → slice_get xs i ≡ Some x → All P xs → P x
-  All_at P xs i x is all =
-      subst P (get_or_from_slice_get xs i x x is) (All-get_or P xs i x (slice_get_within xs i x is) all)
-
   pub drop_at : (xs : List X) (i : ℕ) (x : X) → slice_get xs i ≡ Some x → drop i xs ≡ x ∷ drop (i + 1) xs
   drop_at xs i x is =
       drop-cons xs i x (slice_get_within xs i x is) ∙ ap (λ (z : X). z ∷ drop (suc i) xs) (get_or_from_slice_get xs i x x is) ∙ ap (λ (n : ℕ). x ∷ drop n xs) (sym (add-one i))
@@ -63,11 +56,3 @@ fits_each_length (slot ∷ slots) (x ∷ xs) fits = ap suc (fits_each_length slo
 pub shape_length : (slots : List Slot) (s : StateValue) → is_reached s ≡ true → HasShape slots s → length (slots_of s) ≡ length slots
 shape_length slots (Bottom room) reached shape = absurd (true≢false (sym reached))
 shape_length slots (Reached state locks) reached shape = fits_each_length slots state shape
-
--- the labels of a function among those of all
-pub labels_at : (funcs : List FuncGraph) (all : List (List (List ℕ))) (i : ℕ) (f : FuncGraph) (labels : List (List ℕ))
-    → all ≡ map (λ (g : FuncGraph). labels_of g.slots) funcs → slice_get funcs i ≡ Some f → labels ≡ get_or all i labels → labels ≡ labels_of f.slots
-labels_at funcs all i f labels same is read =
-    read ∙ ap (λ (l : List (List (List ℕ))). get_or l i labels) same
-    ∙ get_or-map (λ (g : FuncGraph). labels_of g.slots) funcs i f labels (slice_get_within funcs i f is)
-    ∙ ap (λ (g : FuncGraph). labels_of g.slots) (get_or_from_slice_get funcs i f f is)
