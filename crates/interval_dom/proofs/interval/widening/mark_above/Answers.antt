@@ -7,7 +7,7 @@ use Rattle.interval_dom.specs.Ranges.{greatest}
 use Rattle.interval_dom.specs.Marks.{mark_above}
 use Rattle.interval_dom.proofs.Ascending.{IsPartitionedBy-int_lt}
 use Rattle.interval_dom.proofs.Resting.{mark_above-none, mark_above-first, mark_above-outside, Contains-mark_above}
-use Rattle.interval_dom.proofs.interval.mark_above.Goals as goal
+use Rattle.interval_dom.proofs.interval.widening.mark_above.Goals as goal
 
 first : (c : goal.After-result-1) → to_z w64 (of_z w64 (get_or c.args.marks.now c.partition_point-first.result (pos 0))) ≡ mark_above c.args.marks.now c.args.n
 first c =

@@ -8,7 +8,7 @@ use Rattle.interval_dom.specs.Ranges.{least}
 use Rattle.interval_dom.specs.Marks.{mark_below}
 use Rattle.interval_dom.proofs.Ascending.{IsPartitionedBy-int_le}
 use Rattle.interval_dom.proofs.Resting.{mark_below-none, mark_below-last, mark_below-outside, Contains-mark_below}
-use Rattle.interval_dom.proofs.interval.mark_below.Goals as goal
+use Rattle.interval_dom.proofs.interval.widening.mark_below.Goals as goal
 
 none : (c : goal.Then-above-eq0) → least W64 ≡ mark_below c.args.marks.now c.args.n
 none c =
