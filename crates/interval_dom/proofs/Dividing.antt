@@ -1,5 +1,5 @@
 -- Where quotients and remainders lie.
-use Rattle.std.proofs.Common.{◌≡◌, ◌≢◌, ℕ, zero, suc, ◌+◌, ◌-◌, ◌*◌, ◌/◌, ◌%◌, ◌<◌, ◌≤◌, max, ℤ, pos, negsuc, ◌≤ℤ◌, ◌<ℤ◌, neg_ℤ, nat_eq, int_lt, int_div, int_rem, unsigned_abs, Bool, true, false, cond, Option, Some, None, IsSomeAnd, option_map, arith, refl, ap, sym, subst, ◌∙◌}
+use Rattle.std.proofs.Common.{◌≡◌, ◌≢◌, ℕ, zero, suc, ◌+◌, ◌-◌, ◌*◌, ◌/◌, ◌%◌, ◌<◌, ◌≤◌, max, ℤ, pos, negsuc, ◌≤ℤ◌, ◌<ℤ◌, neg_ℤ, nat_eq, int_lt, int_div, int_rem, unsigned_abs, Bool, true, false, cond, Option, Some, None, IsSomeAnd, IfSome, option_map, arith, refl, ap, sym, subst, ◌∙◌}
 use Rattle.std.specs.Int.{int_min, int_max}
 use Rattle.std.proofs.lemmas.Int.{ints, clamps}
 use Rattle.std.proofs.lemmas.Bool.Decides.{nat_tests}
@@ -7,8 +7,8 @@ use Rattle.std.proofs.lemmas.Nat.{le-div}
 use Rattle.std.proofs.Math.Nat.{div-mul-le_self, mul-le-mul_left, mod-lt, mod-le}
 use Rattle.interval_dom.specs.declared.width.Width.{Width}
 use Rattle.interval_dom.specs.declared.width.Width.TheVariants.{W32, W64}
-use Rattle.interval_dom.specs.Bounds.{Bounds, between, Describes, hull}
-use Rattle.interval_dom.specs.Ranges.{fitted, wrapped, corners, IsOfWidth}
+use Rattle.interval_dom.specs.Bounds.{Bounds, between, Describes, Covers, hull}
+use Rattle.interval_dom.specs.Ranges.{least, greatest, full, fitted, wrapped, corners, IsOfWidth}
 use Rattle.interval_dom.specs.Quotients.{below_zero, above_zero, quotients_by, hull_of, quotients, greatest_abs, remainder_range, remainders}
 use Rattle.interval_dom.proofs.Corners.{IsBetween, IsBetween-rising, IsBetween-falling, IsBetween-neg_ℤ, Describes-extremes}
 use Rattle.interval_dom.proofs.Fitting.{Describes-fitted, wrapped-of_width}
@@ -165,3 +165,21 @@ IsOfWidth-int_rem W64 (negsuc n) y (low, high) = let least = mod-le (suc n) (uns
 
 pub wrapped-int_rem : (w : Width) (x y : ℤ) → IsOfWidth w x → wrapped w (int_rem x y) ≡ int_rem x y
 wrapped-int_rem w x y within = wrapped-of_width w (int_rem x y) (IsOfWidth-int_rem w x y within)
+
+low_covered : (w : Width) (low : ℤ) (g : ℕ) (b : Bool) → least w ≤ℤ low → least w ≤ℤ cond b (int_max low (neg_ℤ (pos (g - 1)))) (pos 0)
+low_covered w low g true order = omega (arith, ints, clamps)
+low_covered W32 low g false order = omega (arith, ints)
+low_covered W64 low g false order = omega (arith, ints)
+
+high_covered : (w : Width) (high : ℤ) (g : ℕ) (b : Bool) → high ≤ℤ greatest w → cond b (int_min high (pos (g - 1))) (pos 0) ≤ℤ greatest w
+high_covered w high g true order = omega (arith, ints, clamps)
+high_covered W32 high g false order = omega (arith, ints)
+high_covered W64 high g false order = omega (arith, ints)
+
+covered_remainders : (w : Width) (a b : Bounds) (s : Bool) → Covers (full w) a → IfSome (cond s None (Some (remainder_range a b))) (λ i. Covers (full w) i)
+covered_remainders w a b true within = tt
+covered_remainders w a b false (low, high) = (low_covered w a.lo (greatest_abs b) (int_lt a.lo (pos 0)) low, high_covered w a.hi (greatest_abs b) (int_lt (pos 0) a.hi) high)
+
+-- remainders of dividends of a width are of that width
+pub Covers-remainders : (w : Width) (a b : Bounds) → Covers (full w) a → IfSome (remainders a b) (λ i. Covers (full w) i)
+Covers-remainders w a b within = covered_remainders w a b (nat_eq (greatest_abs b) 0) within

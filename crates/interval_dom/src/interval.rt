@@ -86,6 +86,7 @@ impl Interval {
         ensures value { result ≡ hull self other }
         ensures left { Covers result self }
         ensures right { Covers result other }
+        ensures least { (outer : Bounds) → Covers outer self → Covers outer other → Covers outer result }
     {
         Interval {
             lo: self.lo.min(other.lo),

@@ -4,8 +4,8 @@
 ghost use Rattle.std.specs.Prelude.{◌≡◌, ◌≢◌, ℤ, ◌-◌, pos, int_div, int_rem, neg_ℤ, int_lt, if◌then◌else◌, ◌≤ℤ◌, ◌↔◌, IsNone, IfSome, IsSomeAnd};
 ghost use Rattle.std.specs.Int.{int_min, int_max};
 ghost use Rattle.std.specs.Option.{option_map};
-ghost use Rattle.interval_dom.specs.Bounds.{between, Describes};
-ghost use Rattle.interval_dom.specs.Ranges.{fitted, corners, wrapped, IsOfWidth};
+ghost use Rattle.interval_dom.specs.Bounds.{between, Describes, Covers};
+ghost use Rattle.interval_dom.specs.Ranges.{full, fitted, corners, wrapped, IsOfWidth};
 ghost use Rattle.interval_dom.specs.Quotients.{below_zero, above_zero, quotients_by, hull_of, quotients, greatest_abs, remainders};
 
 use crate::interval::Interval;
@@ -19,6 +19,7 @@ impl Interval {
     /// None where zero is the only divisor.
     pub fn div(self, other: Interval, w: Width) -> Option<Interval>
         ensures value { result ≡ option_map (fitted w) (quotients self other) }
+        ensures of_width { IfSome result (λ i. Covers (full w) i) }
         ensures none { IsNone result ↔ (other ≡ between (pos 0) (pos 0)) }
         ensures bounds { (x y : ℤ) → Describes self x → Describes other y → y ≢ pos 0 → IsSomeAnd result (λ i. Describes i (wrapped w (int_div x y))) }
     {
@@ -31,6 +32,7 @@ impl Interval {
     /// None where zero is the only divisor.
     pub fn rem(self, other: Interval, w: Width) -> Option<Interval>
         ensures value { result ≡ remainders self other }
+        ensures of_width { Covers (full w) self → IfSome result (λ i. Covers (full w) i) }
         ensures none { IsNone result ↔ (other ≡ between (pos 0) (pos 0)) }
         ensures bounds { (x y : ℤ) → Describes self x → Describes other y → y ≢ pos 0 → IsSomeAnd result (λ i. Describes i (int_rem x y)) }
         ensures wrapped { (x y : ℤ) → Describes self x → Describes other y → y ≢ pos 0 → IsOfWidth w x → wrapped w (int_rem x y) ≡ int_rem x y }

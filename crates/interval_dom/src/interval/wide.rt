@@ -1,8 +1,8 @@
 //! Ranges before they are fitted to a width.
 
 ghost use Rattle.std.specs.Prelude.{◌≡◌, ◌≤ℤ◌};
-ghost use Rattle.interval_dom.specs.Bounds.{between, hull};
-ghost use Rattle.interval_dom.specs.Ranges.{fitted, extremes};
+ghost use Rattle.interval_dom.specs.Bounds.{between, hull, Covers};
+ghost use Rattle.interval_dom.specs.Ranges.{full, fitted, extremes};
 
 use crate::interval::Interval;
 use crate::width::Width;
@@ -60,7 +60,8 @@ impl Wide {
 
     /// The interval itself where it lies in the width, else all numbers of the width.
     pub(crate) fn fit(self, w: Width) -> Interval
-        ensures { result ≡ fitted w self }
+        ensures value { result ≡ fitted w self }
+        ensures of_width { Covers (full w) result }
     {
         let all = Interval::full(w);
         if i128::from(all.lo) <= self.lo && self.hi <= i128::from(all.hi) {

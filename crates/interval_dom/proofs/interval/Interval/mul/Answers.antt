@@ -23,7 +23,7 @@ value c =
     let high_high : c.product-4.result ≡ c.args.self.hi *ℤ c.args.other.hi = rw (← c.self.view_is, ← c.other.view_is) (simp to_z-of_z at c.product-4.ensures) in
     let four : c.of_four-products.result ≡ extremes c.product.result c.product-2.result c.product-3.result c.product-4.result = simp to_z-of_z at c.of_four-products.ensures in
     let same : c.of_four-products.result ≡ products c.args.self c.args.other = rw (← low_low, ← low_high, ← high_low, ← high_high) four in
-    c.fit.ensures ∙ ap (fitted c.args.w) same
+    c.fit.ensures.value ∙ ap (fitted c.args.w) same
 
 pub returns-clause-value : goal.returns-clause-value
 returns-clause-value c = value c

@@ -13,7 +13,7 @@ value c =
     let other_high : FitsSigned w64 c.other.inside.hi = search rules in
     let low : c.difference.result ≡ c.args.self.lo -ℤ c.args.other.hi = rw (← c.self.view_is, ← c.other.view_is) (simp to_z-of_z at c.difference.ensures) in
     let high : c.difference-2.result ≡ c.args.self.hi -ℤ c.args.other.lo = rw (← c.self.view_is, ← c.other.view_is) (simp to_z-of_z at c.difference-2.ensures) in
-    c.fit.ensures ∙ ap (fitted c.args.w) (c.new.ensures ∙ ap₂ between (omega (arith, ints)) (omega (arith, ints)))
+    c.fit.ensures.value ∙ ap (fitted c.args.w) (c.new.ensures ∙ ap₂ between (omega (arith, ints)) (omega (arith, ints)))
 
 pub returns-clause-value : goal.returns-clause-value
 returns-clause-value c = value c
