@@ -67,9 +67,9 @@ surely-Relates Eq a b p q each =
     both_true (int_le a.hi b.lo) (int_le b.hi a.lo) (to_le a.hi b.lo (omega (arith, ints))) (to_le b.hi a.lo (omega (arith, ints)))
 surely-Relates Ne a b p q each =
     either_true (int_lt a.hi b.lo) (int_lt b.hi a.lo) (λ s t.
-        let first = not_lt_of a.hi b.lo s in
-        let last = not_lt_of b.hi a.lo t in
-        each (int_max a.lo b.lo) (int_max a.lo b.lo) (omega (arith, ints, clamps), omega (arith, ints, clamps)) (omega (arith, ints, clamps), omega (arith, ints, clamps)) refl)
+    let first = not_lt_of a.hi b.lo s in
+    let last = not_lt_of b.hi a.lo t in
+    each (int_max a.lo b.lo) (int_max a.lo b.lo) (omega (arith, ints, clamps), omega (arith, ints, clamps)) (omega (arith, ints, clamps), omega (arith, ints, clamps)) refl)
 
 pub opposite-fails : (op : Cmp) (x y : ℤ) → Relates (opposite_of op) x y → Relates op x y → ⊥
 opposite-fails Lt x y opposite holds = omega (arith, ints)
@@ -119,16 +119,18 @@ zero_inside false true never = (omega (arith, ints), omega (arith, ints))
 zero_inside false false never = (omega (arith, ints), omega (arith, ints))
 
 pub comparison-all : (op : Cmp) (a b : Bounds) → a.lo ≤ℤ a.hi → b.lo ≤ℤ b.hi → (comparison op a b ≡ between (pos 1) (pos 1)) ↔ ((x y : ℤ) → Describes a x → Describes b y → Relates op x y)
-comparison-all op a b p q =
-    ( λ e. Relates-surely op a b (one_is (surely op a b) (surely (opposite_of op) a b) e)
-    , λ each. rw (surely-Relates op a b p q each) refl )
+comparison-all op a b p q = (
+  λ e. Relates-surely op a b (one_is (surely op a b) (surely (opposite_of op) a b) e),
+  λ each. rw (surely-Relates op a b p q each) refl,
+)
 
 pub comparison-none : (op : Cmp) (a b : Bounds) → a.lo ≤ℤ a.hi → b.lo ≤ℤ b.hi → (comparison op a b ≡ between (pos 0) (pos 0)) ↔ ((x y : ℤ) → Describes a x → Describes b y → Relates op x y → ⊥)
-comparison-none op a b p q =
-    ( λ e x y left right. opposite-fails op x y (Relates-surely (opposite_of op) a b (zero_is (surely op a b) (surely (opposite_of op) a b) e) x y left right)
-    , λ none. zero_from (surely op a b) (surely (opposite_of op) a b)
-        (λ sure. none a.lo b.lo (omega (arith, ints), p) (omega (arith, ints), q) (Relates-surely op a b sure a.lo b.lo (omega (arith, ints), p) (omega (arith, ints), q)))
-        (surely-Relates (opposite_of op) a b p q (λ x y left right. opposite-holds op x y (none x y left right))) )
+comparison-none op a b p q = (
+  λ e x y left right. opposite-fails op x y (Relates-surely (opposite_of op) a b (zero_is (surely op a b) (surely (opposite_of op) a b) e) x y left right),
+  λ none. zero_from (surely op a b) (surely (opposite_of op) a b)
+      (λ sure. none a.lo b.lo (omega (arith, ints), p) (omega (arith, ints), q) (Relates-surely op a b sure a.lo b.lo (omega (arith, ints), p) (omega (arith, ints), q)))
+      (surely-Relates (opposite_of op) a b p q (λ x y left right. opposite-holds op x y (none x y left right))),
+)
 
 pub comparison-holds : (op : Cmp) (a b : Bounds) (x y : ℤ) → Describes a x → Describes b y → Relates op x y → Describes (comparison op a b) (pos 1)
 comparison-holds op a b x y left right holds =
@@ -180,9 +182,10 @@ Describes-cut Le a b x y (l, h) (l', h') holds = (l, omega (arith, ints, clamps)
 Describes-cut Gt a b x y (l, h) (l', h') holds = (omega (arith, ints, clamps), h)
 Describes-cut Ge a b x y (l, h) (l', h') holds = (omega (arith, ints, clamps), h)
 Describes-cut Eq a b x y (l, h) (l', h') holds = (omega (arith, ints, clamps), omega (arith, ints, clamps))
-Describes-cut Ne a b x y (l, h) within holds =
-    ( past_low_within a.lo x y b (int_eq b.lo b.hi && int_eq a.lo b.lo) refl l within holds
-    , past_high_within a.hi x y b (int_eq b.lo b.hi && int_eq a.hi b.lo) refl h within holds )
+Describes-cut Ne a b x y (l, h) within holds = (
+  past_low_within a.lo x y b (int_eq b.lo b.hi && int_eq a.lo b.lo) refl l within holds,
+  past_high_within a.hi x y b (int_eq b.lo b.hi && int_eq a.hi b.lo) refl h within holds,
+)
 
 pub Covers-cut : (op : Cmp) (a b : Bounds) → Covers a (cut op a b)
 Covers-cut Lt a b = (omega (arith, ints, clamps), omega (arith, ints, clamps))

@@ -36,8 +36,8 @@ pub IsBetween-*ℤ : (low x high y : ℤ) → low ≤ℤ x → x ≤ℤ high →
 IsBetween-*ℤ low x high (pos n) first last = IsBetween-rising _ _ _ (product_rises low x n first) (product_rises x high n last)
 IsBetween-*ℤ low x high (negsuc n) first last =
     IsBetween-falling _ _ _
-        (omega (arith, ints, *ℤ-negsuc x n, *ℤ-negsuc high n, product_rises x high (suc n) last))
-        (omega (arith, ints, *ℤ-negsuc x n, *ℤ-negsuc low n, product_rises low x (suc n) first))
+    (omega (arith, ints, *ℤ-negsuc x n, *ℤ-negsuc high n, product_rises x high (suc n) last))
+    (omega (arith, ints, *ℤ-negsuc x n, *ℤ-negsuc low n, product_rises low x (suc n) first))
 
 pub Describes-products : (a b : Bounds) (x y : ℤ) → Describes a x → Describes b y → Describes (products a b) (x *ℤ y)
 Describes-products a b x y (low, high) (low', high') =

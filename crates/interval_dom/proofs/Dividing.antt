@@ -40,9 +40,9 @@ IsBetween-dividends low x high (pos n) first last other =
     IsBetween-rising _ _ _ (quotient_rises low x n (above n other) first) (quotient_rises x high n (above n other) last)
 IsBetween-dividends low x high (negsuc n) first last other =
     rw (int_div-negsuc low n, int_div-negsuc x n, int_div-negsuc high n)
-        (IsBetween-falling _ _ _
-            (let h = quotient_rises x high (suc n) (omega arith) last in omega (arith, ints))
-            (let h = quotient_rises low x (suc n) (omega arith) first in omega (arith, ints)))
+    (IsBetween-falling _ _ _
+    (let h = quotient_rises x high (suc n) (omega arith) last in omega (arith, ints))
+    (let h = quotient_rises low x (suc n) (omega arith) first in omega (arith, ints)))
 
 -- along divisors above zero
 IsBetween-divisors : (x : ℤ) (low d high : ℕ) → 0 < low → low ≤ d → d ≤ high → IsBetween (int_div x (pos low)) (int_div x (pos d)) (int_div x (pos high))
@@ -64,7 +64,7 @@ IsBetween-above x (negsuc l) d high some first last = absurd (omega (arith, ints
 IsBetween-below : (x low d high : ℤ) → high <ℤ pos 0 → low ≤ℤ d → d ≤ℤ high → IsBetween (int_div x low) (int_div x d) (int_div x high)
 IsBetween-below x (negsuc l) (negsuc m) (negsuc h) some first last =
     rw (int_div-negsuc x l, int_div-negsuc x m, int_div-negsuc x h)
-        (IsBetween-neg_ℤ _ _ _ (IsBetween-divisors x (suc h) (suc m) (suc l) (omega (arith, ints)) (omega (arith, ints)) (omega (arith, ints))))
+    (IsBetween-neg_ℤ _ _ _ (IsBetween-divisors x (suc h) (suc m) (suc l) (omega (arith, ints)) (omega (arith, ints)) (omega (arith, ints))))
 IsBetween-below x (pos l) d (negsuc h) some first last = absurd (omega (arith, ints))
 IsBetween-below x (negsuc l) (pos m) (negsuc h) some first last = absurd (omega (arith, ints))
 IsBetween-below x low d (pos h) some first last = absurd (omega (arith, ints))
@@ -86,13 +86,13 @@ by_positive : (a b : Bounds) (x y : ℤ) → Describes a x → Describes b y →
 by_positive a b x y left (low, high) positive =
     let some : int_lt (pos 0) b.hi ≡ true = grind (arith, ints) in
     rw some (hull_of_right (quotients_by a (below_zero b)) (corners int_div a (between (int_max b.lo (pos 1)) b.hi)) (int_div x y)
-        (Describes-corners a (int_max b.lo (pos 1)) b.hi x y left (λ zero. omega (arith, ints, zero)) (λ z. IsBetween-above z (int_max b.lo (pos 1)) y b.hi (omega (arith, ints, clamps)) (omega (arith, ints, clamps)) high)))
+    (Describes-corners a (int_max b.lo (pos 1)) b.hi x y left (λ zero. omega (arith, ints, zero)) (λ z. IsBetween-above z (int_max b.lo (pos 1)) y b.hi (omega (arith, ints, clamps)) (omega (arith, ints, clamps)) high)))
 
 by_negative : (a b : Bounds) (x y : ℤ) → Describes a x → Describes b y → y <ℤ pos 0 → IsSomeAnd (quotients a b) (λ q. Describes q (int_div x y))
 by_negative a b x y left (low, high) negative =
     let some : int_lt b.lo (pos 0) ≡ true = grind (arith, ints) in
     rw some (hull_of_left (corners int_div a (between b.lo (int_min b.hi (negsuc 0)))) (quotients_by a (above_zero b)) (int_div x y)
-        (Describes-corners a b.lo (int_min b.hi (negsuc 0)) x y left (λ zero. omega (arith, ints, zero)) (λ z. IsBetween-below z b.lo y (int_min b.hi (negsuc 0)) (omega (arith, ints, clamps)) low (omega (arith, ints, clamps)))))
+    (Describes-corners a b.lo (int_min b.hi (negsuc 0)) x y left (λ zero. omega (arith, ints, zero)) (λ z. IsBetween-below z b.lo y (int_min b.hi (negsuc 0)) (omega (arith, ints, clamps)) low (omega (arith, ints, clamps)))))
 
 pub IsSomeAnd-quotients : (a b : Bounds) (x y : ℤ) → Describes a x → Describes b y → y ≢ pos 0 → IsSomeAnd (quotients a b) (λ q. Describes q (int_div x y))
 IsSomeAnd-quotients a b x (pos n) left right other = by_positive a b x (pos n) left right (omega (arith, ints, above n other))
@@ -139,15 +139,17 @@ remainder_of : (a b : Bounds) (x y : ℤ) → Describes a x → Describes b y �
 remainder_of a b (pos n) y (low, high) (low', high') other =
     let near = mod-lt n (some_divisor y other) in
     let most = largest b.lo y b.hi low' high' in
-    let least = mod-le n (unsigned_abs y) in
-    ( low_side a.lo (greatest_abs b) (pos (n % unsigned_abs y)) (int_lt a.lo (pos 0)) refl (omega (arith, ints)) (λ h. omega (arith, ints)) (λ h. omega (arith, ints))
-    , high_side a.hi (greatest_abs b) (pos (n % unsigned_abs y)) (int_lt (pos 0) a.hi) refl (omega (arith, ints)) (λ h. omega (arith, ints)) (λ h. omega (arith, ints)) )
+    let least = mod-le n (unsigned_abs y) in (
+      low_side a.lo (greatest_abs b) (pos (n % unsigned_abs y)) (int_lt a.lo (pos 0)) refl (omega (arith, ints)) (λ h. omega (arith, ints)) (λ h. omega (arith, ints)),
+      high_side a.hi (greatest_abs b) (pos (n % unsigned_abs y)) (int_lt (pos 0) a.hi) refl (omega (arith, ints)) (λ h. omega (arith, ints)) (λ h. omega (arith, ints)),
+    )
 remainder_of a b (negsuc n) y (low, high) (low', high') other =
     let near = mod-lt (suc n) (some_divisor y other) in
     let most = largest b.lo y b.hi low' high' in
-    let least = mod-le (suc n) (unsigned_abs y) in
-    ( low_side a.lo (greatest_abs b) (neg_ℤ (pos (suc n % unsigned_abs y))) (int_lt a.lo (pos 0)) refl (omega (arith, ints)) (λ h. omega (arith, ints)) (λ h. omega (arith, ints))
-    , high_side a.hi (greatest_abs b) (neg_ℤ (pos (suc n % unsigned_abs y))) (int_lt (pos 0) a.hi) refl (omega (arith, ints)) (λ h. omega (arith, ints)) (λ h. omega (arith, ints)) )
+    let least = mod-le (suc n) (unsigned_abs y) in (
+      low_side a.lo (greatest_abs b) (neg_ℤ (pos (suc n % unsigned_abs y))) (int_lt a.lo (pos 0)) refl (omega (arith, ints)) (λ h. omega (arith, ints)) (λ h. omega (arith, ints)),
+      high_side a.hi (greatest_abs b) (neg_ℤ (pos (suc n % unsigned_abs y))) (int_lt (pos 0) a.hi) refl (omega (arith, ints)) (λ h. omega (arith, ints)) (λ h. omega (arith, ints)),
+    )
 
 pub IsSomeAnd-remainders : (a b : Bounds) (x y : ℤ) → Describes a x → Describes b y → y ≢ pos 0 → IsSomeAnd (remainders a b) (λ i. Describes i (int_rem x y))
 IsSomeAnd-remainders a b x y left (low, high) other =

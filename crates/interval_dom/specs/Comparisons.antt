@@ -45,8 +45,8 @@ surely Ne a b = int_lt a.hi b.lo || int_lt b.hi a.lo
 abbrev pub comparison : Cmp → Bounds → Bounds → Bounds
 comparison op a b =
     if surely op a b
-        then between (pos 1) (pos 1)
-        else (if surely (opposite_of op) a b then between (pos 0) (pos 0) else between (pos 0) (pos 1))
+    then between (pos 1) (pos 1)
+    else (if surely (opposite_of op) a b then between (pos 0) (pos 0) else between (pos 0) (pos 1))
 
 -- one number more, or one less, where the end is the one number of y
 abbrev pub past_low : ℤ → Bounds → ℤ

@@ -34,8 +34,8 @@ greatest_abs b = max (unsigned_abs b.lo) (unsigned_abs b.hi)
 abbrev pub remainder_range : Bounds → Bounds → Bounds
 remainder_range a b =
     between
-        (if int_lt a.lo (pos 0) then int_max a.lo (neg_ℤ (pos (greatest_abs b - 1))) else pos 0)
-        (if int_lt (pos 0) a.hi then int_min a.hi (pos (greatest_abs b - 1)) else pos 0)
+    (if int_lt a.lo (pos 0) then int_max a.lo (neg_ℤ (pos (greatest_abs b - 1))) else pos 0)
+    (if int_lt (pos 0) a.hi then int_min a.hi (pos (greatest_abs b - 1)) else pos 0)
 
 -- the remainders by all divisors but zero
 abbrev pub remainders : Bounds → Bounds → Option Bounds

@@ -3,6 +3,8 @@
 
 mod cmp;
 mod interval;
+#[cfg(test)]
+mod tests;
 mod width;
 
 pub use cmp::Cmp;

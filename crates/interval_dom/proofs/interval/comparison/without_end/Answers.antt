@@ -15,7 +15,7 @@ returns-in-true-false c =
     let low : c.kept.inside.lo ≡ c.args.n = same_number _ _ low_fits n_fits c.in-true-false.is-0 in
     let high : c.kept.inside.hi ≢ c.args.n = λ e. c.in-true-false.is-1 (ap (of_z w64) e) in
     rw (← c.kept.view_is, past_low-dropped c.kept.inside.lo c.args.n low, past_high-kept c.kept.inside.hi c.args.n high)
-        (c.new.ensures.value ∙ ap unless_empty (ap₂ between (omega (arith, ints)) (to_z-of_z w64 c.kept.inside.hi high_fits)))
+    (c.new.ensures.value ∙ ap unless_empty (ap₂ between (omega (arith, ints)) (to_z-of_z w64 c.kept.inside.hi high_fits)))
 
 pub returns-in-false-true : goal.returns-in-false-true
 returns-in-false-true c =
@@ -25,4 +25,4 @@ returns-in-false-true c =
     let low : c.kept.inside.lo ≢ c.args.n = λ e. c.in-false-true.is-0 (ap (of_z w64) e) in
     let high : c.kept.inside.hi ≡ c.args.n = same_number _ _ high_fits n_fits c.in-false-true.is-1 in
     rw (← c.kept.view_is, past_low-kept c.kept.inside.lo c.args.n low, past_high-dropped c.kept.inside.hi c.args.n high)
-        (c.new-in-false-true.ensures.value ∙ ap unless_empty (ap₂ between (to_z-of_z w64 c.kept.inside.lo low_fits) (omega (arith, ints))))
+    (c.new-in-false-true.ensures.value ∙ ap unless_empty (ap₂ between (to_z-of_z w64 c.kept.inside.lo low_fits) (omega (arith, ints))))

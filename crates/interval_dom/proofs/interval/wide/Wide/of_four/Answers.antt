@@ -20,7 +20,7 @@ returns c =
     let most' : FitsSigned w128 c.max-2.result = search rules in
     let most'' : FitsSigned w128 c.max-3.result = search rules in
     let low : c.min-3.result ≡ int_min (int_min c.args.p c.args.q) (int_min c.args.r c.args.s) =
-        (simp to_z-of_z at c.min-3.ensures.value) ∙ ap₂ int_min (simp to_z-of_z at c.min.ensures.value) (simp to_z-of_z at c.min-2.ensures.value) in
+    (simp to_z-of_z at c.min-3.ensures.value) ∙ ap₂ int_min (simp to_z-of_z at c.min.ensures.value) (simp to_z-of_z at c.min-2.ensures.value) in
     let high : c.max-3.result ≡ int_max (int_max c.args.p c.args.q) (int_max c.args.r c.args.s) =
-        (simp to_z-of_z at c.max-3.ensures.value) ∙ ap₂ int_max (simp to_z-of_z at c.max.ensures.value) (simp to_z-of_z at c.max-2.ensures.value) in
+    (simp to_z-of_z at c.max-3.ensures.value) ∙ ap₂ int_max (simp to_z-of_z at c.max.ensures.value) (simp to_z-of_z at c.max-2.ensures.value) in
     ap₂ between (to_z-of_z w128 c.min-3.result least'' ∙ low) (to_z-of_z w128 c.max-3.result most'' ∙ high)
