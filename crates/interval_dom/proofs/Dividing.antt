@@ -1,5 +1,5 @@
 -- Where quotients and remainders lie.
-use Rattle.std.proofs.Common.{◌≡◌, ◌≢◌, ℕ, zero, suc, ◌+◌, ◌-◌, ◌*◌, ◌/◌, ◌%◌, ◌<◌, ◌≤◌, max, ℤ, pos, negsuc, ◌≤ℤ◌, ◌<ℤ◌, neg_ℤ, nat_eq, int_lt, int_div, int_rem, unsigned_abs, Bool, true, false, cond, Option, Some, None, IsSomeAnd, IfSome, option_map, arith, refl, ap, sym, subst, ◌∙◌}
+use Rattle.std.proofs.Common.{◌≡◌, ◌≢◌, ℕ, zero, suc, ◌-◌, ◌/◌, ◌%◌, ◌<◌, ◌≤◌, max, ℤ, pos, negsuc, ◌≤ℤ◌, ◌<ℤ◌, neg_ℤ, nat_eq, int_lt, int_div, int_rem, unsigned_abs, Bool, true, false, cond, Option, Some, None, IsSomeAnd, IfSome, option_map, arith, refl}
 use Rattle.std.specs.Int.{int_min, int_max}
 use Rattle.std.proofs.lemmas.Int.{ints, clamps}
 use Rattle.std.proofs.lemmas.Bool.Decides.{nat_tests}
@@ -7,7 +7,7 @@ use Rattle.std.proofs.lemmas.Nat.{le-div}
 use Rattle.std.proofs.Math.Nat.{div-mul-le_self, mul-le-mul_left, mod-lt, mod-le}
 use Rattle.interval_dom.specs.declared.width.Width.{Width}
 use Rattle.interval_dom.specs.declared.width.Width.TheVariants.{W32, W64}
-use Rattle.interval_dom.specs.Bounds.{Bounds, between, Describes, Covers, hull}
+use Rattle.interval_dom.specs.Bounds.{Bounds, between, Describes, Covers}
 use Rattle.interval_dom.specs.Ranges.{least, greatest, full, fitted, wrapped, corners, IsOfWidth}
 use Rattle.interval_dom.specs.Quotients.{below_zero, above_zero, quotients_by, hull_of, quotients, greatest_abs, remainder_range, remainders}
 use Rattle.interval_dom.proofs.Corners.{IsBetween, IsBetween-rising, IsBetween-falling, IsBetween-neg_ℤ, Describes-extremes}

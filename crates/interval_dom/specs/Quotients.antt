@@ -1,5 +1,5 @@
 -- Division as C has it: the quotient is cut off towards zero, and the remainder has the sign of the dividend.
-use Rattle.std.specs.Prelude.{ℕ, ◌-◌, max, ℤ, pos, negsuc, neg_ℤ, nat_eq, int_lt, int_div, unsigned_abs, Option, Some, None, if◌then◌else◌}
+use Rattle.std.specs.Prelude.{ℕ, ◌-◌, max, pos, negsuc, neg_ℤ, nat_eq, int_lt, int_div, unsigned_abs, Option, Some, None, if◌then◌else◌}
 use Rattle.std.specs.Int.{int_min, int_max}
 use Rattle.interval_dom.specs.Bounds.{Bounds, between, hull}
 use Rattle.interval_dom.specs.Ranges.{corners}

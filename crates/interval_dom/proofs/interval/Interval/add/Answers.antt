@@ -1,4 +1,4 @@
-use Rattle.std.proofs.Common.{◌≡◌, ◌+ℤ◌, ℤ, arith, ap, ap₂, sym, subst, ◌∙◌, w64, FitsSigned, rules}
+use Rattle.std.proofs.Common.{◌≡◌, ◌+ℤ◌, arith, ap, ap₂, sym, subst, ◌∙◌, w64, FitsSigned, rules}
 use Rattle.std.proofs.lemmas.Int.{ints, to_z-of_z}
 use Rattle.interval_dom.specs.Bounds.{Bounds, between, Describes}
 use Rattle.interval_dom.specs.Ranges.{fitted, sums, wrapped}

@@ -1,4 +1,4 @@
-use Rattle.std.proofs.Common.{◌≡◌, pos, subst, sym}
+use Rattle.std.proofs.Common.{pos, subst, sym}
 use Rattle.interval_dom.specs.Bounds.{Bounds, Describes}
 use Rattle.interval_dom.proofs.Comparing.{comparison-all, comparison-none, comparison-holds, comparison-fails}
 use Rattle.interval_dom.proofs.interval.Interval.compare.Goals as goal

@@ -1,4 +1,4 @@
-use Rattle.std.proofs.Common.{◌≡◌, ℤ, arith, ap}
+use Rattle.std.proofs.Common.{◌≡◌, arith, ap}
 use Rattle.std.proofs.lemmas.Int.{ints, clamps}
 use Rattle.interval_dom.specs.Bounds.{Bounds}
 use Rattle.interval_dom.proofs.interval.Interval.join.Goals as goal

@@ -1,7 +1,7 @@
-use Rattle.std.proofs.Common.{◌≡◌, ◌*ℤ◌, ℤ, arith, ap, ap₂, sym, subst, ◌∙◌, w64, FitsSigned, rules}
+use Rattle.std.proofs.Common.{◌≡◌, ◌*ℤ◌, ap, sym, subst, ◌∙◌, w64, FitsSigned, rules}
 use Rattle.std.specs.Int.{w128}
-use Rattle.std.proofs.lemmas.Int.{ints, to_z-of_z}
-use Rattle.interval_dom.specs.Bounds.{Bounds, between, Describes}
+use Rattle.std.proofs.lemmas.Int.{to_z-of_z}
+use Rattle.interval_dom.specs.Bounds.{Bounds, Describes}
 use Rattle.interval_dom.specs.Ranges.{fitted, extremes, products, wrapped}
 use Rattle.interval_dom.proofs.Corners.{Describes-products}
 use Rattle.interval_dom.proofs.Fitting.{Describes-fitted}

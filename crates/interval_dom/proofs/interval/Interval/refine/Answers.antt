@@ -1,4 +1,4 @@
-use Rattle.std.proofs.Common.{◌≡◌, Option, IsSomeAnd, IfSome, subst, sym}
+use Rattle.std.proofs.Common.{Option, IsSomeAnd, IfSome, subst, sym}
 use Rattle.interval_dom.specs.Bounds.{Bounds, Describes, Covers}
 use Rattle.interval_dom.proofs.Comparing.{refined-keeps, refined-within}
 use Rattle.interval_dom.proofs.interval.Interval.refine.Goals as goal

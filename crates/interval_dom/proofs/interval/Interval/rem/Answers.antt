@@ -1,4 +1,4 @@
-use Rattle.std.proofs.Common.{◌≡◌, Option, IsSomeAnd, IfSome, int_rem, subst, sym}
+use Rattle.std.proofs.Common.{Option, IsSomeAnd, IfSome, int_rem, subst, sym}
 use Rattle.interval_dom.specs.Bounds.{Bounds, Describes, Covers}
 use Rattle.interval_dom.specs.Ranges.{full}
 use Rattle.interval_dom.proofs.Dividing.{IsSomeAnd-remainders, Covers-remainders, wrapped-int_rem}

@@ -1,4 +1,4 @@
-use Rattle.std.proofs.Common.{◌≡◌, ℤ, arith, ap, FitsSigned, w64, rules}
+use Rattle.std.proofs.Common.{◌≡◌, arith, ap, FitsSigned, w64, rules}
 use Rattle.std.proofs.lemmas.Int.{ints, to_z-of_z}
 use Rattle.interval_dom.specs.Bounds.{Bounds}
 use Rattle.interval_dom.proofs.interval.Interval.widen.Goals as goal

@@ -1,4 +1,4 @@
-use Rattle.std.proofs.Common.{◌≡◌, ◌≢◌, ℤ, pos, ◌+ℤ◌, ◌-ℤ◌, arith, ap, ap₂, sym, ◌∙◌, to_z, of_z, w64, FitsSigned, rules}
+use Rattle.std.proofs.Common.{◌≡◌, ◌≢◌, ℤ, arith, ap, ap₂, sym, ◌∙◌, to_z, of_z, w64, FitsSigned, rules}
 use Rattle.std.proofs.lemmas.Int.{ints, to_z-of_z}
 use Rattle.interval_dom.specs.Bounds.{between, unless_empty}
 use Rattle.interval_dom.proofs.Comparing.{past_low-dropped, past_low-kept, past_high-dropped, past_high-kept}

@@ -1,8 +1,7 @@
-use Rattle.std.proofs.Common.{◌≡◌, int_div, ℤ, w64, FitsSigned, rules}
+use Rattle.std.proofs.Common.{◌≡◌, int_div, w64, FitsSigned, rules}
 use Rattle.std.specs.Int.{w128}
 use Rattle.std.proofs.lemmas.Int.{to_z-of_z}
-use Rattle.interval_dom.specs.Bounds.{between}
-use Rattle.interval_dom.specs.Ranges.{extremes, corners}
+use Rattle.interval_dom.specs.Ranges.{extremes}
 use Rattle.interval_dom.proofs.interval.division.quotient_range.Goals as goal
 
 pub returns : goal.returns

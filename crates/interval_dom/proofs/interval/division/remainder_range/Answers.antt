@@ -1,7 +1,7 @@
-use Rattle.std.proofs.Common.{◌≡◌, ℕ, ◌-◌, ℤ, pos, false, nat_eq, Some, arith, ap, ap₂, ◌∙◌, sym, w64, FitsSigned, rules}
+use Rattle.std.proofs.Common.{◌≡◌, ◌-◌, ℤ, pos, false, nat_eq, Some, arith, ap₂, ◌∙◌, w64, FitsSigned, rules}
 use Rattle.std.proofs.lemmas.Bool.Decides.{nat_tests}
-use Rattle.std.proofs.lemmas.Int.{ints, to_z-of_z}
-use Rattle.interval_dom.specs.Bounds.{Bounds, between}
+use Rattle.std.proofs.lemmas.Int.{to_z-of_z}
+use Rattle.interval_dom.specs.Bounds.{between}
 use Rattle.interval_dom.specs.Quotients.{greatest_abs, remainder_range}
 use Rattle.interval_dom.proofs.interval.division.remainder_range.Goals as goal
 

@@ -1,4 +1,4 @@
-use Rattle.std.proofs.Common.{◌≡◌, ℤ, ◌≤ℤ◌, arith, ap, ap₂, sym, subst, ◌∙◌, w64, FitsSigned}
+use Rattle.std.proofs.Common.{◌≡◌, ◌≤ℤ◌, arith, ap, ap₂, sym, subst, ◌∙◌, w64, FitsSigned}
 use Rattle.std.proofs.lemmas.Int.{ints}
 use Rattle.interval_dom.specs.Bounds.{Bounds, between, Covers}
 use Rattle.interval_dom.specs.Ranges.{least, greatest, full}

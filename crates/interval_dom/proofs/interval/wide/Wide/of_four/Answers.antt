@@ -1,4 +1,4 @@
-use Rattle.std.proofs.Common.{◌≡◌, ℤ, ◌≤ℤ◌, arith, ap₂, ◌∙◌, FitsSigned, rules}
+use Rattle.std.proofs.Common.{◌≡◌, arith, ap₂, ◌∙◌, FitsSigned, rules}
 use Rattle.std.specs.Int.{int_min, int_max, w128}
 use Rattle.std.proofs.lemmas.Int.{ints, clamps, to_z-of_z}
 use Rattle.interval_dom.specs.Bounds.{between}
