@@ -1,11 +1,11 @@
 -- What an operation on four lanes gives, place by place.
-use Rattle.std.proofs.Common.{◌≡◌, ℕ, zero, suc, ◌+◌, ◌*◌, ◌-◌, ◌%◌, ◌/◌, ◌^◌, ◌<◌, ◌≤◌, ℤ, pos, ◌≤ℤ◌, ◌<ℤ◌, Bool, true, false, cond, ◌&&◌, List, [], ◌∷◌, length, map, get_or, take, drop, replicate, nat_eq, int_le, int_lt, All, FitsSigned, to_z, of_z, w64, arith, refl, sym, ◌∙◌, ap, ap₂, subst}
+use Rattle.std.proofs.Common.{◌≡◌, ℕ, ◌+◌, ◌-◌, ◌%◌, ◌^◌, ◌<◌, ℤ, pos, ◌≤ℤ◌, ◌<ℤ◌, Bool, true, false, cond, ◌&&◌, List, [], ◌∷◌, length, map, get_or, replicate, nat_eq, int_le, int_lt, All, FitsSigned, to_z, of_z, w64, arith, refl, sym, ◌∙◌, ap, ap₂}
 use Rattle.std.specs.Cmp.Lexicographic.{pointwise}
 use Rattle.std.specs.Int.{bit_at, int_min, int_max}
 use Rattle.std.specs.Simd.Lanes.{zip2, mask_l, top, sel_l, chunk}
 use Rattle.std.proofs.lemmas.Int.{ints, clamps, to_z-of_z}
 use Rattle.std.proofs.lemmas.List.Elements.{All-head, All-tail, All-replicate}
-use Rattle.std.proofs.lemmas.Simd.{tops_compared, length-chunk, get_or-chunk, get_or-zip2, get_or-replicate, bit_mask_l, mask_l-mod, length-zip2}
+use Rattle.std.proofs.lemmas.Simd.{tops_compared, get_or-chunk, get_or-zip2, bit_mask_l, mask_l-mod, length-zip2}
 use mir.Syntax.{mask, le, lt, signed}
 use borrow.Rule.Simd.Lanes.{act2}
 use borrow.Table.Row.{s_int}

@@ -1,5 +1,5 @@
 -- Columns, place by place.
-use Rattle.std.proofs.Common.{◌≡◌, ℕ, zero, suc, ◌+◌, ◌-◌, ◌<◌, ◌≤◌, ℤ, pos, ◌≤ℤ◌, ◌<ℤ◌, Bool, true, false, cond, ◌&&◌, ◌||◌, ◌↔◌, List, [], ◌∷◌, ◌++◌, length, get_or, take, drop, set, int_le, int_lt, nat_eq, bit_and, bit_or, IsTrue, length-drop, arith, refl, sym, ◌∙◌, ap, ap₂, subst}
+use Rattle.std.proofs.Common.{◌≡◌, ℕ, zero, suc, ◌+◌, ◌<◌, ◌≤◌, ℤ, ◌≤ℤ◌, ◌<ℤ◌, Bool, true, false, ◌&&◌, ◌||◌, ◌↔◌, List, [], ◌∷◌, length, get_or, take, drop, set, int_le, int_lt, nat_eq, bit_and, bit_or, IsTrue, length-drop, arith, refl, sym, ◌∙◌, ap}
 use Rattle.std.specs.Cmp.Lexicographic.{pointwise}
 use Rattle.std.specs.Simd.Lanes.{zip2, chunk, put_chunk}
 use Rattle.std.specs.Int.{bit_at}
@@ -10,7 +10,7 @@ use Rattle.std.proofs.lemmas.Int.{ints}
 use Rattle.lane_bounds.specs.declared.cmp.Cmp.{Cmp}
 use Rattle.lane_bounds.specs.declared.cmp.Cmp.TheVariants.{Lt, Le, Gt, Ge, Eq, Ne}
 use Rattle.lane_bounds.specs.Columns.{all_at_most, all_covered, at_place, bit_of}
-use Rattle.lane_bounds.specs.Comparisons.{Relates, HoldsForSome, holds_for_some}
+use Rattle.lane_bounds.specs.Comparisons.{HoldsForSome, holds_for_some}
 
 le_of : (x y : ℤ) → int_le x y ≡ true → x ≤ℤ y
 le_of x y e = grind (arith, ints)
@@ -103,11 +103,12 @@ all_at_most-complete (x ∷ xs) (y ∷ ys) same each =
     rw (to_le x y (each 0 (omega arith)), all_at_most-complete xs ys (omega arith) (λ k within. each (suc k) (omega arith))) refl
 
 pub all_covered-places : (a_lo a_hi b_lo b_hi : List ℤ) → length a_hi ≡ length a_lo → length b_lo ≡ length a_lo → length b_hi ≡ length a_lo → IsTrue (all_covered a_lo a_hi b_lo b_hi) ↔ ((k : ℕ) → k < length a_lo → (at_place b_lo k ≤ℤ at_place a_lo k) × (at_place a_hi k ≤ℤ at_place b_hi k))
-all_covered-places a_lo a_hi b_lo b_hi p q r =
-    ( λ test k within.
-        let parts = and_parts (all_at_most b_lo a_lo) (all_at_most a_hi b_hi) test in
-        (all_at_most-sound b_lo a_lo parts.0 k (omega arith), all_at_most-sound a_hi b_hi parts.1 k (omega arith))
-    , λ each. rw (all_at_most-complete b_lo a_lo (sym q) (λ k within. (each k (omega arith)).0), all_at_most-complete a_hi b_hi (r ∙ sym p) (λ k within. (each k (omega arith)).1)) refl )
+all_covered-places a_lo a_hi b_lo b_hi p q r = (
+  λ test k within.
+      let parts = and_parts (all_at_most b_lo a_lo) (all_at_most a_hi b_hi) test in
+      (all_at_most-sound b_lo a_lo parts.0 k (omega arith), all_at_most-sound a_hi b_hi parts.1 k (omega arith)),
+  λ each. rw (all_at_most-complete b_lo a_lo (sym q) (λ k within. (each k (omega arith)).0), all_at_most-complete a_hi b_hi (r ∙ sym p) (λ k within. (each k (omega arith)).1)) refl,
+)
 
 -- where the four places from n on pass, those after them decide
 pub all_at_most-passed : (n : ℕ) (xs ys : List ℤ) → n + 4 ≤ length xs → n + 4 ≤ length ys → all_at_most (chunk n 4 xs) (chunk n 4 ys) ≡ true → all_at_most (drop n xs) (drop n ys) ≡ all_at_most (drop (n + 4) xs) (drop (n + 4) ys)
@@ -171,7 +172,7 @@ some_complete Ge c low high (x, first, last, holds) = both (int_le low high) (in
 some_complete Eq c low high (x, first, last, holds) = both (int_le low c) (int_le c high) (to_le low c (omega (arith, ints))) (to_le c high (omega (arith, ints)))
 some_complete Ne c low high (x, first, last, holds) =
     both (int_le low high) (int_lt low c || int_lt c high) (to_le low high (omega (arith, ints)))
-        (one_of (int_lt low c) refl (int_lt c high) refl)
+    (one_of (int_lt low c) refl (int_lt c high) refl)
   where
     one_of : (s : Bool) → int_lt low c ≡ s → (t : Bool) → int_lt c high ≡ t → (s || t) ≡ true
     one_of true p t q = refl

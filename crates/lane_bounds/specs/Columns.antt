@@ -1,5 +1,5 @@
 -- Columns of numbers of 64 bits, place by place.
-use Rattle.std.specs.Prelude.{◌≡◌, ℕ, ℤ, ◌≤ℤ◌, pos, Bool, ◌&&◌, List, length, slice_index_or, int_le, All, FitsSigned, if◌then◌else◌}
+use Rattle.std.specs.Prelude.{◌≡◌, ℕ, ℤ, pos, Bool, ◌&&◌, List, length, slice_index_or, int_le, All, FitsSigned, if◌then◌else◌}
 use Rattle.std.specs.Int.{w64}
 use Rattle.std.specs.Cmp.Lexicographic.{pointwise}
 

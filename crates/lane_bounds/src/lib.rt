@@ -6,6 +6,8 @@ mod covered;
 mod joined;
 mod lanes;
 mod marked;
+#[cfg(test)]
+mod tests;
 
 pub use cmp::Cmp;
 pub use covered::le_all;

@@ -1,5 +1,4 @@
-use Rattle.std.proofs.Common.{◌≡◌, arith, sym, ◌∙◌, true}
-use Rattle.lane_bounds.specs.Columns.{all_at_most}
+use Rattle.std.proofs.Common.{arith, sym, ◌∙◌}
 use Rattle.lane_bounds.proofs.Places.{all_at_most-passed}
 use Rattle.lane_bounds.proofs.covered.column_at_most.Goals as goal
 

@@ -7,5 +7,5 @@ use Rattle.lane_bounds.proofs.lanes.lower_four.Goals as goal
 pub returns : goal.returns
 returns c =
     ap (λ (lanes : List ℤ). put_chunk c.args.at c.args.x.now lanes)
-        (lesser-four c.four_at.result c.four_at-2.result c.four_at.ensures.four c.four_at-2.ensures.four
-        ∙ ap₂ (zip2 int_min) c.four_at.ensures.lanes c.four_at-2.ensures.lanes)
+    (lesser-four c.four_at.result c.four_at-2.result c.four_at.ensures.four c.four_at-2.ensures.four
+    ∙ ap₂ (zip2 int_min) c.four_at.ensures.lanes c.four_at-2.ensures.lanes)
