@@ -51,10 +51,6 @@ pub FitsSigned-of_width : (w : Width) (z : ℤ) → IsOfWidth w z → FitsSigned
 FitsSigned-of_width W32 z (low, high) = omega (arith, ints)
 FitsSigned-of_width W64 z (low, high) = omega (arith, ints)
 
--- what wraps a sum stands in the fitted sums
-pub Describes-fitted_sums : (w : Width) (a b : Bounds) (x y : ℤ) → Describes a x → Describes b y → Describes (fitted w (sums a b)) (wrapped w (x +ℤ y))
-Describes-fitted_sums w a b x y left right = Describes-fitted w (sums a b) (x +ℤ y) (Describes-sums a b x y left right)
-
 pub Describes-differences : (a b : Bounds) (x y : ℤ) → Describes a x → Describes b y → Describes (differences a b) (x -ℤ y)
 Describes-differences a b x y (low, high) (low', high') = (omega (arith, ints), omega (arith, ints))
 

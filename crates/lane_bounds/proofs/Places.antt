@@ -116,11 +116,6 @@ all_at_most-passed n xs ys p q passed =
     pointwise-split int_le 4 (drop n xs) (drop n ys) (omega (arith, length-drop n xs)) (omega (arith, length-drop n ys))
     ∙ rw (passed, drop_after n xs, drop_after n ys) refl
 
--- and where they fail, all fails
-pub all_at_most-failed : (n : ℕ) (xs ys : List ℤ) → n + 4 ≤ length xs → n + 4 ≤ length ys → all_at_most (chunk n 4 xs) (chunk n 4 ys) ≡ false → all_at_most (drop n xs) (drop n ys) ≡ false
-all_at_most-failed n xs ys p q failed =
-    pointwise-split int_le 4 (drop n xs) (drop n ys) (omega (arith, length-drop n xs)) (omega (arith, length-drop n ys)) ∙ rw failed refl
-
 -- bits of two marks
 pub bit_at-both : (m n j : ℕ) (s t : Bool) → bit_at m j ≡ bit_of s → bit_at n j ≡ bit_of t → bit_at (bit_and m n) j ≡ bit_of (s && t)
 bit_at-both m n j true true p q = omega (arith, bit_at_and m n j, p, q)
