@@ -1,11 +1,9 @@
 -- Columns, place by place.
-use Rattle.std.proofs.Common.{◌≡◌, ℕ, zero, suc, ◌+◌, ◌<◌, ◌≤◌, ℤ, ◌≤ℤ◌, ◌<ℤ◌, Bool, true, false, ◌&&◌, ◌||◌, ◌↔◌, List, [], ◌∷◌, length, get_or, take, drop, set, int_le, int_lt, nat_eq, bit_and, bit_or, IsTrue, length-drop, arith, refl, sym, ◌∙◌, ap}
+use Rattle.std.proofs.Common.{ap₂, ◌≡◌, ℕ, zero, suc, ◌+◌, ◌<◌, ◌≤◌, ℤ, ◌≤ℤ◌, ◌<ℤ◌, Bool, true, false, ◌&&◌, ◌||◌, ◌↔◌, List, [], ◌∷◌, length, get_or, take, drop, set, int_le, int_lt, nat_eq, IsTrue, length-drop, arith, refl, sym, ◌∙◌, ap}
 use Rattle.std.specs.Cmp.Lexicographic.{pointwise}
 use Rattle.std.specs.Simd.Lanes.{zip2, chunk, put_chunk}
-use Rattle.std.specs.Int.{bit_at}
 use Rattle.std.proofs.lemmas.Bool.{and_parts}
 use Rattle.std.proofs.lemmas.List.{drop-drop}
-use Rattle.std.proofs.lemmas.Nat.Bits.{bit_at_and, bit_at_or}
 use Rattle.std.proofs.lemmas.Int.{ints}
 use Rattle.lane_bounds.specs.declared.cmp.Cmp.{Cmp}
 use Rattle.lane_bounds.specs.declared.cmp.Cmp.TheVariants.{Lt, Le, Gt, Ge, Eq, Ne}
@@ -111,23 +109,59 @@ all_covered-places a_lo a_hi b_lo b_hi p q r = (
 )
 
 -- where the four places from n on pass, those after them decide
-pub all_at_most-passed : (n : ℕ) (xs ys : List ℤ) → n + 4 ≤ length xs → n + 4 ≤ length ys → all_at_most (chunk n 4 xs) (chunk n 4 ys) ≡ true → all_at_most (drop n xs) (drop n ys) ≡ all_at_most (drop (n + 4) xs) (drop (n + 4) ys)
-all_at_most-passed n xs ys p q passed =
+four_decide : (n : ℕ) (xs ys : List ℤ) → n + 4 ≤ length xs → n + 4 ≤ length ys → all_at_most (drop n xs) (drop n ys) ≡ (all_at_most (chunk n 4 xs) (chunk n 4 ys) && all_at_most (drop (n + 4) xs) (drop (n + 4) ys))
+four_decide n xs ys p q =
     pointwise-split int_le 4 (drop n xs) (drop n ys) (omega (arith, length-drop n xs)) (omega (arith, length-drop n ys))
-    ∙ rw (passed, drop_after n xs, drop_after n ys) refl
+    ∙ rw (drop_after n xs, drop_after n ys) refl
 
--- bits of two marks
-pub bit_at-both : (m n j : ℕ) (s t : Bool) → bit_at m j ≡ bit_of s → bit_at n j ≡ bit_of t → bit_at (bit_and m n) j ≡ bit_of (s && t)
-bit_at-both m n j true true p q = omega (arith, bit_at_and m n j, p, q)
-bit_at-both m n j true false p q = omega (arith, bit_at_and m n j, p, q)
-bit_at-both m n j false true p q = omega (arith, bit_at_and m n j, p, q)
-bit_at-both m n j false false p q = omega (arith, bit_at_and m n j, p, q)
+abbrev both_of : Bool → Bool → Bool
+both_of a b = a && b
 
-pub bit_at-either : (m n j : ℕ) (s t : Bool) → bit_at m j ≡ bit_of s → bit_at n j ≡ bit_of t → bit_at (bit_or m n) j ≡ bit_of (s || t)
-bit_at-either m n j true true p q = omega (arith, bit_at_or m n j, p, q)
-bit_at-either m n j true false p q = omega (arith, bit_at_or m n j, p, q)
-bit_at-either m n j false true p q = omega (arith, bit_at_or m n j, p, q)
-bit_at-either m n j false false p q = omega (arith, bit_at_or m n j, p, q)
+covered_regroup : (a b c d : Bool) → ((a && b) && (c && d)) ≡ ((a && c) && (b && d))
+covered_regroup true true c d = refl
+covered_regroup true false true d = refl
+covered_regroup true false false d = refl
+covered_regroup false b c d = refl
+
+pub all_covered-four : (n : ℕ) (a_lo a_hi b_lo b_hi : List ℤ) → n + 4 ≤ length a_lo → n + 4 ≤ length a_hi → n + 4 ≤ length b_lo → n + 4 ≤ length b_hi
+    → all_covered (drop n a_lo) (drop n a_hi) (drop n b_lo) (drop n b_hi) ≡ (all_covered (chunk n 4 a_lo) (chunk n 4 a_hi) (chunk n 4 b_lo) (chunk n 4 b_hi) && all_covered (drop (n + 4) a_lo) (drop (n + 4) a_hi) (drop (n + 4) b_lo) (drop (n + 4) b_hi))
+all_covered-four n a_lo a_hi b_lo b_hi p q r s =
+    ap₂ both_of (four_decide n b_lo a_lo r p) (four_decide n a_hi b_hi q s)
+    ∙ covered_regroup (all_at_most (chunk n 4 b_lo) (chunk n 4 a_lo)) (all_at_most (drop (n + 4) b_lo) (drop (n + 4) a_lo)) (all_at_most (chunk n 4 a_hi) (chunk n 4 b_hi)) (all_at_most (drop (n + 4) a_hi) (drop (n + 4) b_hi))
+
+both_true : (s t : Bool) → s ≡ true → t ≡ true → (s && t) ≡ true
+both_true s t p q = rw (p, q) refl
+
+pub all_covered-passed : (n : ℕ) (a_lo a_hi b_lo b_hi : List ℤ) → n + 4 ≤ length a_lo → n + 4 ≤ length a_hi → n + 4 ≤ length b_lo → n + 4 ≤ length b_hi
+    → all_covered (chunk n 4 a_lo) (chunk n 4 a_hi) (chunk n 4 b_lo) (chunk n 4 b_hi) ≡ true
+    → all_covered (drop n a_lo) (drop n a_hi) (drop n b_lo) (drop n b_hi) ≡ all_covered (drop (n + 4) a_lo) (drop (n + 4) a_hi) (drop (n + 4) b_lo) (drop (n + 4) b_hi)
+all_covered-passed n a_lo a_hi b_lo b_hi p q r s passed =
+    all_covered-four n a_lo a_hi b_lo b_hi p q r s
+    ∙ ap (λ (b : Bool). b && all_covered (drop (n + 4) a_lo) (drop (n + 4) a_hi) (drop (n + 4) b_lo) (drop (n + 4) b_hi)) passed
+
+pub all_covered-failed : (n : ℕ) (a_lo a_hi b_lo b_hi : List ℤ) → n + 4 ≤ length a_lo → n + 4 ≤ length a_hi → n + 4 ≤ length b_lo → n + 4 ≤ length b_hi
+    → all_covered (chunk n 4 a_lo) (chunk n 4 a_hi) (chunk n 4 b_lo) (chunk n 4 b_hi) ≡ false
+    → all_covered (drop n a_lo) (drop n a_hi) (drop n b_lo) (drop n b_hi) ≡ false
+all_covered-failed n a_lo a_hi b_lo b_hi p q r s failed =
+    all_covered-four n a_lo a_hi b_lo b_hi p q r s
+    ∙ ap (λ (b : Bool). b && all_covered (drop (n + 4) a_lo) (drop (n + 4) a_hi) (drop (n + 4) b_lo) (drop (n + 4) b_hi)) failed
+
+-- the place n and those after it
+at_most_next : (n : ℕ) (xs ys : List ℤ) → n < length xs → n < length ys → all_at_most (drop n xs) (drop n ys) ≡ (int_le (at_place xs n) (at_place ys n) && all_at_most (drop (n + 1) xs) (drop (n + 1) ys))
+at_most_next zero [] ys p q = absurd (omega arith)
+at_most_next zero (x ∷ xs) [] p q = absurd (omega arith)
+at_most_next zero (x ∷ xs) (y ∷ ys) p q = refl
+at_most_next (suc n) [] ys p q = absurd (omega arith)
+at_most_next (suc n) (x ∷ xs) [] p q = absurd (omega arith)
+at_most_next (suc n) (x ∷ xs) (y ∷ ys) p q =
+    let next : suc n + 1 ≡ suc (n + 1) = omega arith in
+    rw next (at_most_next n xs ys (omega arith) (omega arith))
+
+pub all_covered-next : (n : ℕ) (a_lo a_hi b_lo b_hi : List ℤ) → n < length a_lo → n < length a_hi → n < length b_lo → n < length b_hi
+    → all_covered (drop n a_lo) (drop n a_hi) (drop n b_lo) (drop n b_hi) ≡ ((int_le (at_place b_lo n) (at_place a_lo n) && int_le (at_place a_hi n) (at_place b_hi n)) && all_covered (drop (n + 1) a_lo) (drop (n + 1) a_hi) (drop (n + 1) b_lo) (drop (n + 1) b_hi))
+all_covered-next n a_lo a_hi b_lo b_hi p q r s =
+    ap₂ both_of (at_most_next n b_lo a_lo r p) (at_most_next n a_hi b_hi q s)
+    ∙ covered_regroup (int_le (at_place b_lo n) (at_place a_lo n)) (all_at_most (drop (n + 1) b_lo) (drop (n + 1) a_lo)) (int_le (at_place a_hi n) (at_place b_hi n)) (all_at_most (drop (n + 1) a_hi) (drop (n + 1) b_hi))
 
 pub bit_of-test : (n : ℕ) (b : Bool) → n ≡ bit_of b → nat_eq n 1 ≡ b
 bit_of-test n true e = rw e refl

@@ -1,10 +1,12 @@
 //! Four numbers at a time.
 
-ghost use Rattle.std.specs.Prelude.{◌≡◌, ℕ, ◌+◌, ◌<◌, ◌≤◌, length, int_le, int_lt};
+ghost use Rattle.std.specs.Prelude.{◌≡◌, ℕ, ◌+◌, ◌^◌, ◌<◌, ◌≤◌, length};
 ghost use Rattle.std.specs.Int.{bit_at, int_min, int_max};
 ghost use Rattle.std.specs.Simd.Lanes.{chunk, put_chunk, zip2};
-ghost use Rattle.lane_bounds.specs.Columns.{IsFour, all_at_most, at_place, bit_of};
+ghost use Rattle.lane_bounds.specs.Columns.{IsFour, all_covered, at_place, bit_of};
+ghost use Rattle.lane_bounds.specs.Comparisons.{holds_for_some};
 
+use crate::cmp::Cmp;
 use std::simd::i64x4;
 
 /// How many places a vector holds.
@@ -19,13 +21,24 @@ fn four_at(column: &[i64], at: usize) -> i64x4
     i64x4::from_array([column[at], column[at + 1], column[at + 2], column[at + 3]])
 }
 
-/// Whether at the four places from `at` on no number of `x` is above that of `y`.
-pub(crate) fn four_at_most(x: &[i64], y: &[i64], at: usize) -> bool
-    requires left { at + LANES ≤ length x.now }
-    requires right { at + LANES ≤ length y.now }
-    ensures { result ≡ all_at_most (chunk at LANES x.now) (chunk at LANES y.now) }
+/// Whether at the four places from `at` on the interval from `a_lo` to `a_hi` lies in that from
+/// `b_lo` to `b_hi`.
+pub(crate) fn four_covered(
+    a_lo: &[i64],
+    a_hi: &[i64],
+    b_lo: &[i64],
+    b_hi: &[i64],
+    at: usize,
+) -> bool
+    requires a_lo { at + LANES ≤ length a_lo.now }
+    requires a_hi { at + LANES ≤ length a_hi.now }
+    requires b_lo { at + LANES ≤ length b_lo.now }
+    requires b_hi { at + LANES ≤ length b_hi.now }
+    ensures { result ≡ all_covered (chunk at LANES a_lo.now) (chunk at LANES a_hi.now) (chunk at LANES b_lo.now) (chunk at LANES b_hi.now) }
 {
-    four_at(x, at).simd_le(four_at(y, at)).all()
+    let low = four_at(b_lo, at).simd_le(four_at(a_lo, at));
+    let high = four_at(a_hi, at).simd_le(four_at(b_hi, at));
+    (low & high).all()
 }
 
 /// The lesser numbers at the four places from `at` on.
@@ -48,43 +61,23 @@ pub(crate) fn raise_four(x: &mut [i64], y: &[i64], at: usize)
     greatest.copy_to_slice(&mut x[at..]);
 }
 
-/// At which of the four places from `at` on the number of `x` is at most that of `y`, as bits.
-pub(crate) fn ordered(x: &[i64], y: &[i64], at: usize) -> u64
-    requires left { at + LANES ≤ length x.now }
-    requires right { at + LANES ≤ length y.now }
-    ensures { (j : ℕ) → j < LANES → bit_at result j ≡ bit_of (int_le (at_place x.now (at + j)) (at_place y.now (at + j))) }
+/// At which of the four places from `at` on some number from `lo` to `hi` stands in the comparison
+/// with `c`, as bits.
+pub(crate) fn four_marks(lo: &[i64], hi: &[i64], at: usize, op: Cmp, c: i64) -> u64
+    requires lo { at + LANES ≤ length lo.now }
+    requires hi { at + LANES ≤ length hi.now }
+    ensures small { result < 2 ^ LANES }
+    ensures places { (j : ℕ) → j < LANES → bit_at result j ≡ bit_of (holds_for_some op c (at_place lo.now (at + j)) (at_place hi.now (at + j))) }
 {
-    four_at(x, at).simd_le(four_at(y, at)).to_bitmask()
-}
-
-/// At which of the four places from `at` on the number is below `n`, as bits.
-pub(crate) fn below(x: &[i64], at: usize, n: i64) -> u64
-    requires { at + LANES ≤ length x.now }
-    ensures { (j : ℕ) → j < LANES → bit_at result j ≡ bit_of (int_lt (at_place x.now (at + j)) n) }
-{
-    four_at(x, at).simd_lt(i64x4::splat(n)).to_bitmask()
-}
-
-/// At which of the four places from `at` on the number is at most `n`, as bits.
-pub(crate) fn at_most(x: &[i64], at: usize, n: i64) -> u64
-    requires { at + LANES ≤ length x.now }
-    ensures { (j : ℕ) → j < LANES → bit_at result j ≡ bit_of (int_le (at_place x.now (at + j)) n) }
-{
-    four_at(x, at).simd_le(i64x4::splat(n)).to_bitmask()
-}
-
-/// At which of the four places from `at` on the number is above `n`, as bits.
-pub(crate) fn above(x: &[i64], at: usize, n: i64) -> u64
-    requires { at + LANES ≤ length x.now }
-    ensures { (j : ℕ) → j < LANES → bit_at result j ≡ bit_of (int_lt n (at_place x.now (at + j))) }
-{
-    i64x4::splat(n).simd_lt(four_at(x, at)).to_bitmask()
-}
-
-/// At which of the four places from `at` on the number is at least `n`, as bits.
-pub(crate) fn at_least(x: &[i64], at: usize, n: i64) -> u64
-    requires { at + LANES ≤ length x.now }
-    ensures { (j : ℕ) → j < LANES → bit_at result j ≡ bit_of (int_le n (at_place x.now (at + j))) }
-{
-    i64x4::splat(n).simd_le(four_at(x, at)).to_bitmask()
+    let low = four_at(lo, at);
+    let high = four_at(hi, at);
+    let number = i64x4::splat(c);
+    match op {
+        Cmp::Lt => (low.simd_le(high) & low.simd_lt(number)).to_bitmask(),
+        Cmp::Le => (low.simd_le(high) & low.simd_le(number)).to_bitmask(),
+        Cmp::Gt => (low.simd_le(high) & number.simd_lt(high)).to_bitmask(),
+        Cmp::Ge => (low.simd_le(high) & number.simd_le(high)).to_bitmask(),
+        Cmp::Eq => (low.simd_le(number) & number.simd_le(high)).to_bitmask(),
+        Cmp::Ne => (low.simd_le(high) & (low.simd_lt(number) | number.simd_lt(high))).to_bitmask(),
+    }
 }

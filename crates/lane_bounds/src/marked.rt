@@ -1,13 +1,13 @@
 //! Where a comparison with one number may hold.
 
-ghost use Rattle.std.specs.Prelude.{◌≡◌, ℕ, ◌+◌, ◌<◌, ◌≤◌, ◌↔◌, false, length, IsTrue, slice_index_or, nat_eq};
+ghost use Rattle.std.specs.Prelude.{◌≡◌, ℕ, ◌+◌, ◌^◌, ◌<◌, ◌≤◌, ◌↔◌, false, length, IsTrue, slice_index_or, nat_eq};
 ghost use Rattle.std.specs.Int.{bit_at};
 ghost use Rattle.std.specs.Simd.Lanes.{zip2};
-ghost use Rattle.lane_bounds.specs.Columns.{at_place, bit_of};
+ghost use Rattle.lane_bounds.specs.Columns.{at_place};
 ghost use Rattle.lane_bounds.specs.Comparisons.{HoldsForSome, holds_for_some};
 
 use crate::cmp::Cmp;
-use crate::lanes::{LANES, above, at_least, at_most, below, ordered};
+use crate::lanes::{LANES, four_marks};
 
 /// Marks each place at which some number from `lo` to `hi` stands in the comparison with `c`.
 pub fn may_hold(lo: &[i64], hi: &[i64], op: Cmp, c: i64, out: &mut [bool])
@@ -35,32 +35,38 @@ fn mark_places(lo: &[i64], hi: &[i64], op: Cmp, c: i64, out: &mut [bool])
     }
 }
 
-// At which of the four places from `at` on the comparison may hold, as bits.
-fn four_marks(lo: &[i64], hi: &[i64], at: usize, op: Cmp, c: i64) -> u64
-    requires lo { at + LANES ≤ length lo.now }
-    requires hi { at + LANES ≤ length hi.now }
-    ensures { (j : ℕ) → j < LANES → bit_at result j ≡ bit_of (holds_for_some op c (at_place lo.now (at + j)) (at_place hi.now (at + j))) }
-{
-    match op {
-        Cmp::Lt => ordered(lo, hi, at) & below(lo, at, c),
-        Cmp::Le => ordered(lo, hi, at) & at_most(lo, at, c),
-        Cmp::Gt => ordered(lo, hi, at) & above(hi, at, c),
-        Cmp::Ge => ordered(lo, hi, at) & at_least(hi, at, c),
-        Cmp::Eq => at_most(lo, at, c) & at_least(hi, at, c),
-        Cmp::Ne => ordered(lo, hi, at) & (below(lo, at, c) | above(hi, at, c)),
-    }
-}
+// Four marks for each number below 16: that of place j is bit j.
+static MARKS: [[bool; 4]; 16] = [
+    [false, false, false, false],
+    [true, false, false, false],
+    [false, true, false, false],
+    [true, true, false, false],
+    [false, false, true, false],
+    [true, false, true, false],
+    [false, true, true, false],
+    [true, true, true, false],
+    [false, false, false, true],
+    [true, false, false, true],
+    [false, true, false, true],
+    [true, true, false, true],
+    [false, false, true, true],
+    [true, false, true, true],
+    [false, true, true, true],
+    [true, true, true, true],
+];
 
 // Writes four marks from place `at` on.
 fn put_four(out: &mut [bool], at: usize, marks: u64)
-    requires { at + LANES ≤ length out.old }
+    requires room { at + LANES ≤ length out.old }
+    requires small { marks < 2 ^ LANES }
     ensures before { (k : ℕ) → k < at → slice_index_or out.new k false ≡ slice_index_or out.old k false }
     ensures here { (j : ℕ) → j < LANES → slice_index_or out.new (at + j) false ≡ nat_eq (bit_at marks j) 1 }
 {
-    out[at] = marks & 1 == 1;
-    out[at + 1] = marks >> 1 & 1 == 1;
-    out[at + 2] = marks >> 2 & 1 == 1;
-    out[at + 3] = marks >> 3 & 1 == 1;
+    let four = MARKS[marks as usize];
+    out[at] = four[0];
+    out[at + 1] = four[1];
+    out[at + 2] = four[2];
+    out[at + 3] = four[3];
 }
 
 fn one_mark(lo: i64, hi: i64, op: Cmp, c: i64) -> bool

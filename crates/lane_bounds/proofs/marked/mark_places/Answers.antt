@@ -18,7 +18,7 @@ loop-at-preserved c =
         | inr after ↦
             (let back : c.loop-at.at + (k - c.loop-at.at) ≡ k = omega arith in
             let inside : k - c.loop-at.at < 4 = omega arith in
-            let mark = c.put_four.ensures.here (k - c.loop-at.at) inside ∙ bit_of-test _ _ (c.four_marks.ensures (k - c.loop-at.at) inside) in
+            let mark = c.put_four.ensures.here (k - c.loop-at.at) inside ∙ bit_of-test _ _ (c.four_marks.ensures.places (k - c.loop-at.at) inside) in
             rw back at mark)
       ],
     )
