@@ -129,9 +129,6 @@ all_covered-four n a_lo a_hi b_lo b_hi p q r s =
     ap₂ both_of (four_decide n b_lo a_lo r p) (four_decide n a_hi b_hi q s)
     ∙ covered_regroup (all_at_most (chunk n 4 b_lo) (chunk n 4 a_lo)) (all_at_most (drop (n + 4) b_lo) (drop (n + 4) a_lo)) (all_at_most (chunk n 4 a_hi) (chunk n 4 b_hi)) (all_at_most (drop (n + 4) a_hi) (drop (n + 4) b_hi))
 
-both_true : (s t : Bool) → s ≡ true → t ≡ true → (s && t) ≡ true
-both_true s t p q = rw (p, q) refl
-
 pub all_covered-passed : (n : ℕ) (a_lo a_hi b_lo b_hi : List ℤ) → n + 4 ≤ length a_lo → n + 4 ≤ length a_hi → n + 4 ≤ length b_lo → n + 4 ≤ length b_hi
     → all_covered (chunk n 4 a_lo) (chunk n 4 a_hi) (chunk n 4 b_lo) (chunk n 4 b_hi) ≡ true
     → all_covered (drop n a_lo) (drop n a_hi) (drop n b_lo) (drop n b_hi) ≡ all_covered (drop (n + 4) a_lo) (drop (n + 4) a_hi) (drop (n + 4) b_lo) (drop (n + 4) b_hi)
