@@ -1,12 +1,12 @@
 -- Numbers that are wrapped to a width, and intervals that are fitted to it.
-use Rattle.std.proofs.Common.{◌≡◌, ℤ, ◌≤ℤ◌, ◌+ℤ◌, Bool, true, false, cond, arith, refl, sym, subst, FitsSigned, w64}
+use Rattle.std.proofs.Common.{◌≡◌, ℤ, ◌≤ℤ◌, ◌+ℤ◌, ◌-ℤ◌, neg_ℤ, Bool, true, false, cond, arith, refl, sym, subst, FitsSigned, w64}
 use Rattle.std.specs.Prelude.{int_le}
 use Rattle.std.proofs.lemmas.Bool.{and_parts}
 use Rattle.std.proofs.lemmas.Int.{ints, int_wrap_fits, SFits-int_wrap}
 use Rattle.interval_dom.specs.declared.width.Width.{Width}
 use Rattle.interval_dom.specs.declared.width.Width.TheVariants.{W32, W64}
-use Rattle.interval_dom.specs.Bounds.{Bounds, between, Describes, covers}
-use Rattle.interval_dom.specs.Ranges.{machine, least, greatest, full, IsOfWidth, wrapped, fitted, sums}
+use Rattle.interval_dom.specs.Bounds.{Bounds, between, Describes, Covers, covers}
+use Rattle.interval_dom.specs.Ranges.{machine, least, greatest, full, IsOfWidth, wrapped, fitted, sums, differences, opposites}
 
 fits_machine : (w : Width) (z : ℤ) → IsOfWidth w z → FitsSigned (machine w) z
 fits_machine W32 z (low, high) = omega (arith, ints)
@@ -51,6 +51,18 @@ pub FitsSigned-of_width : (w : Width) (z : ℤ) → IsOfWidth w z → FitsSigned
 FitsSigned-of_width W32 z (low, high) = omega (arith, ints)
 FitsSigned-of_width W64 z (low, high) = omega (arith, ints)
 
--- what wraps a sum stands in the fitted sums
-pub Describes-fitted_sums : (w : Width) (a b : Bounds) (x y : ℤ) → Describes a x → Describes b y → Describes (fitted w (sums a b)) (wrapped w (x +ℤ y))
-Describes-fitted_sums w a b x y left right = Describes-fitted w (sums a b) (x +ℤ y) (Describes-sums a b x y left right)
+pub Describes-differences : (a b : Bounds) (x y : ℤ) → Describes a x → Describes b y → Describes (differences a b) (x -ℤ y)
+Describes-differences a b x y (low, high) (low', high') = (omega (arith, ints), omega (arith, ints))
+
+pub Describes-opposites : (a : Bounds) (x : ℤ) → Describes a x → Describes (opposites a) (neg_ℤ x)
+Describes-opposites a x (low, high) = (omega (arith, ints), omega (arith, ints))
+
+covers_step : (w : Width) (b : Bounds) (fits : Bool) → covers (full w) b ≡ fits → Covers (full w) (cond fits b (full w))
+covers_step w b true e =
+    let ends = and_parts (int_le (least w) b.lo) (int_le b.hi (greatest w)) e in
+    (grind (arith, ints), grind (arith, ints))
+covers_step w b false e = (omega (arith, ints), omega (arith, ints))
+
+-- what is fitted lies in the width
+pub Covers-fitted : (w : Width) (b : Bounds) → Covers (full w) (fitted w b)
+Covers-fitted w b = covers_step w b (covers (full w) b) refl

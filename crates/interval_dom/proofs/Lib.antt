@@ -1,4 +1,7 @@
 pub mod Ascending
-pub mod Resting
+pub mod Comparing
+pub mod Corners
+pub mod Dividing
 pub mod Fitting
+pub mod Resting
 pub mod Within

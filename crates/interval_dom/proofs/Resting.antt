@@ -115,3 +115,10 @@ Contains-mark_above marks n (m, one, (above, end)) = elim (fold-int_min_reached 
       subst (Contains marks) same one)
   | inr kept ↦ of_filter (λ k. int_le n k) marks (mark_above marks n) kept
 ]
+
+-- no mark on the outer side of n stands between n and the mark of rest
+pub mark_below-within : (marks : List ℤ) (n m : ℤ) → Contains marks m → m ≤ℤ n → m ≤ℤ mark_below marks n
+mark_below-within marks n m one below = All-contains (λ k. int_le k n ≡ true → k ≤ℤ mark_below marks n) marks m (mark_below-ge marks n) one (le_test m n below)
+
+pub mark_above-within : (marks : List ℤ) (n m : ℤ) → Contains marks m → n ≤ℤ m → mark_above marks n ≤ℤ m
+mark_above-within marks n m one above = All-contains (λ k. int_le n k ≡ true → mark_above marks n ≤ℤ k) marks m (mark_above-le marks n) one (le_test n m above)

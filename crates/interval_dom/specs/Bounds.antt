@@ -1,5 +1,5 @@
 -- What an interval is: its two ends, and the numbers between them.
-use Rattle.std.specs.Prelude.{ℤ, ◌≤ℤ◌, Bool, ◌&&◌, int_le}
+use Rattle.std.specs.Prelude.{ℤ, ◌≤ℤ◌, Bool, ◌&&◌, int_le, Option, Some, None, if◌then◌else◌}
 use Rattle.std.specs.Int.{int_min, int_max}
 
 -- the least and the greatest number of an interval
@@ -25,3 +25,7 @@ covers outer inner = int_le outer.lo inner.lo && int_le inner.hi outer.hi
 -- the least interval that covers both
 abbrev pub hull : Bounds → Bounds → Bounds
 hull a b = between (int_min a.lo b.lo) (int_max a.hi b.hi)
+
+-- an interval, where it has numbers
+abbrev pub unless_empty : Bounds → Option Bounds
+unless_empty b = if int_le b.lo b.hi then Some b else None

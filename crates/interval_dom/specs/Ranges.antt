@@ -1,6 +1,6 @@
 -- The numbers of a width, and the operations of the machine on them, which wrap.
-use Rattle.std.specs.Prelude.{ℤ, ◌+ℤ◌, pos, negsuc, if◌then◌else◌}
-use Rattle.std.specs.Int.{Width as MachineWidth, w32, w64, int_wrap}
+use Rattle.std.specs.Prelude.{ℤ, ◌+ℤ◌, ◌-ℤ◌, ◌*ℤ◌, neg_ℤ, pos, negsuc, if◌then◌else◌}
+use Rattle.std.specs.Int.{Width as MachineWidth, w32, w64, int_wrap, int_min, int_max}
 use Rattle.interval_dom.specs.declared.width.Width.{Width}
 use Rattle.interval_dom.specs.declared.width.Width.TheVariants.{W32, W64}
 use Rattle.interval_dom.specs.Bounds.{Bounds, between, covers, Describes}
@@ -37,3 +37,22 @@ fitted w b = if covers (full w) b then b else full w
 -- the sums of a number of one interval and a number of another
 abbrev pub sums : Bounds → Bounds → Bounds
 sums a b = between (a.lo +ℤ b.lo) (a.hi +ℤ b.hi)
+
+-- a number of one interval less a number of another
+abbrev pub differences : Bounds → Bounds → Bounds
+differences a b = between (a.lo -ℤ b.hi) (a.hi -ℤ b.lo)
+
+-- the numbers of an interval with the other sign
+abbrev pub opposites : Bounds → Bounds
+opposites a = between (neg_ℤ a.hi) (neg_ℤ a.lo)
+
+-- from the least of four numbers to the greatest
+abbrev pub extremes : ℤ → ℤ → ℤ → ℤ → Bounds
+extremes p q r s = between (int_min (int_min p q) (int_min r s)) (int_max (int_max p q) (int_max r s))
+
+-- the range of an operation that rises or falls along each of its operands, by its results at the ends
+abbrev pub corners : (ℤ → ℤ → ℤ) → Bounds → Bounds → Bounds
+corners op a b = extremes (op a.lo b.lo) (op a.lo b.hi) (op a.hi b.lo) (op a.hi b.hi)
+
+abbrev pub products : Bounds → Bounds → Bounds
+products a b = corners ◌*ℤ◌ a b

@@ -7,8 +7,8 @@ use Rattle.interval_dom.specs.declared.width.Width.TheVariants.{W64}
 use Rattle.interval_dom.specs.Ranges.{least}
 use Rattle.interval_dom.specs.Marks.{mark_below}
 use Rattle.interval_dom.proofs.Ascending.{IsPartitionedBy-int_le}
-use Rattle.interval_dom.proofs.Resting.{mark_below-none, mark_below-last, mark_below-outside, Contains-mark_below}
-use Rattle.interval_dom.proofs.interval.mark_below.Goals as goal
+use Rattle.interval_dom.proofs.Resting.{mark_below-none, mark_below-last, mark_below-outside, mark_below-within, Contains-mark_below}
+use Rattle.interval_dom.proofs.interval.widening.mark_below.Goals as goal
 
 none : (c : goal.Then-above-eq0) → least W64 ≡ mark_below c.args.marks.now c.args.n
 none c =
@@ -35,3 +35,9 @@ returns-else-above-eq0-clause-outside c = subst (λ (m : ℤ). m ≤ℤ c.args.n
 
 pub returns-else-above-eq0-clause-mark : goal.returns-else-above-eq0-clause-mark
 returns-else-above-eq0-clause-mark c some = subst (Contains c.args.marks.now) (sym (last c)) (Contains-mark_below c.args.marks.now c.args.n some)
+
+pub returns-then-above-eq0-clause-within : goal.returns-then-above-eq0-clause-within
+returns-then-above-eq0-clause-within c m one below = subst (λ (r : ℤ). m ≤ℤ r) (sym (none c)) (mark_below-within c.args.marks.now c.args.n m one below)
+
+pub returns-else-above-eq0-clause-within : goal.returns-else-above-eq0-clause-within
+returns-else-above-eq0-clause-within c m one below = subst (λ (r : ℤ). m ≤ℤ r) (sym (last c)) (mark_below-within c.args.marks.now c.args.n m one below)

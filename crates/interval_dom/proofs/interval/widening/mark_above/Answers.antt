@@ -6,8 +6,8 @@ use Rattle.interval_dom.specs.declared.width.Width.TheVariants.{W64}
 use Rattle.interval_dom.specs.Ranges.{greatest}
 use Rattle.interval_dom.specs.Marks.{mark_above}
 use Rattle.interval_dom.proofs.Ascending.{IsPartitionedBy-int_lt}
-use Rattle.interval_dom.proofs.Resting.{mark_above-none, mark_above-first, mark_above-outside, Contains-mark_above}
-use Rattle.interval_dom.proofs.interval.mark_above.Goals as goal
+use Rattle.interval_dom.proofs.Resting.{mark_above-none, mark_above-first, mark_above-outside, mark_above-within, Contains-mark_above}
+use Rattle.interval_dom.proofs.interval.widening.mark_above.Goals as goal
 
 first : (c : goal.After-result-1) → to_z w64 (of_z w64 (get_or c.args.marks.now c.partition_point-first.result (pos 0))) ≡ mark_above c.args.marks.now c.args.n
 first c =
@@ -34,3 +34,9 @@ returns-else-first-marks-clause-mark c some = subst (Contains c.args.marks.now) 
 
 pub returns-then-first-marks-clause-mark : goal.returns-then-first-marks-clause-mark
 returns-then-first-marks-clause-mark c some = subst (Contains c.args.marks.now) (sym (first c)) (Contains-mark_above c.args.marks.now c.args.n some)
+
+pub returns-else-first-marks-clause-within : goal.returns-else-first-marks-clause-within
+returns-else-first-marks-clause-within c m one above = subst (λ (r : ℤ). r ≤ℤ m) (sym (none c)) (mark_above-within c.args.marks.now c.args.n m one above)
+
+pub returns-then-first-marks-clause-within : goal.returns-then-first-marks-clause-within
+returns-then-first-marks-clause-within c m one above = subst (λ (r : ℤ). r ≤ℤ m) (sym (first c)) (mark_above-within c.args.marks.now c.args.n m one above)
