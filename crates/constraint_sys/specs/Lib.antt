@@ -1,3 +1,4 @@
+pub mod Breach
 pub mod Contribution
 pub mod PostSolution
 pub mod Sound
