@@ -7,6 +7,9 @@ use std::test::Fail;
 
 const NAME: &str = "lone.c";
 
+/// Room for the longest table of the tests, in bytes.
+const ROOM: usize = 500_000;
+
 /// A run over objects in memory: how it ended, and what it wrote.
 #[derive(Drop)]
 struct Ran {
@@ -44,7 +47,7 @@ fn run_with(alloc: Global, all: &[&str], text: &[u8], faults: Faults) -> Result<
     let name = Text::of(alloc, NAME.as_bytes())?;
     held.push((name, Vec::from_slice(alloc, text)?))?;
     let mut files = MemFiles::new(alloc, held, one(alloc, faults.load)?)?;
-    let mut out = MemSink::new(alloc, 100_000, 7, one(alloc, faults.write)?)?;
+    let mut out = MemSink::new(alloc, ROOM, 7, one(alloc, faults.write)?)?;
     let words = words(alloc, all)?;
     let status = run_batch(alloc, words.as_slice(), &mut files, &mut out);
     let written = Vec::from_slice(alloc, out.written())?;
@@ -65,6 +68,7 @@ main(){} 4 1:44 a=[2,2] b=[5,5] {}
 complete
 ";
 
+/// It also refuses a program that always answers want of memory, which no clause does.
 #[test]
 fn tables_are_printed(rt: HostRuntime) -> Result<(), Fail> {
     let lone = analysed(rt.alloc(), b"int main(void) { return 0; }")?;
@@ -130,6 +134,26 @@ fn sums_have_at_most_64_signs(rt: HostRuntime) -> Result<(), Fail> {
         let text = sum_of(rt.alloc(), plus)?;
         let ran = analysed(rt.alloc(), text.as_slice())?;
         assert_eq!(rt; ran.status.number(), status, "{plus} signs");
+    }
+    Ok(())
+}
+
+fn declarations(alloc: Global, count: u64) -> Result<Vec<u8>, Fail> {
+    let mut text = Vec::from_slice(alloc, b"int main(void) { ")?;
+    for i in 0..count {
+        let declaration = format!(in alloc; "int x{i}; ")?;
+        text.extend_from_slice(declaration.as_bytes())?;
+    }
+    text.extend_from_slice(b"return x0; }")?;
+    Ok(text)
+}
+
+#[test]
+fn mains_have_at_most_127_declarations(rt: HostRuntime) -> Result<(), Fail> {
+    for (count, status) in [(127, 0), (128, 5)] {
+        let text = declarations(rt.alloc(), count)?;
+        let ran = analysed(rt.alloc(), text.as_slice())?;
+        assert_eq!(rt; ran.status.number(), status, "{count} declarations");
     }
     Ok(())
 }
