@@ -105,7 +105,8 @@ fn joined(
     Ok(state)
 }
 
-fn room(function: &FuncGraph) -> u16
+/// The number of a function's slots.
+pub(crate) fn room(function: &FuncGraph) -> u16
     requires { length function.now.slots ≤ 128 }
     ensures { result ≡ length function.now.slots }
 {

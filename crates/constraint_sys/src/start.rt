@@ -9,7 +9,7 @@ ghost use Rattle.constraint_sys.specs.declared.unknown.Unknown.TheVariants.{Poin
 ghost use Rattle.constraint_sys.specs.declared.value.Value.TheVariants.{State as StateOf};
 
 use crate::dirty::Dirty;
-use crate::edges::function_at;
+use crate::edges::{function_at, room};
 use crate::table::Table;
 use crate::unknown::{ArgKey, Key, Unknown};
 use crate::value::Value;
@@ -46,13 +46,6 @@ fn point(func: u16, node: u16) -> Unknown
         },
         node,
     }
-}
-
-fn room(function: &FuncGraph) -> u16
-    requires { length function.now.slots ≤ 128 }
-    ensures { result ≡ length function.now.slots }
-{
-    function.slots.len() as u16
 }
 
 /// The table with the start of a function alone.
