@@ -1,7 +1,7 @@
 -- What `analyse` answers where the files tell the text of the file.
 use Rattle.std.specs.Prelude.{◌≡◌, ◌≢◌, ℕ, List, Option, take}
 use Rattle.gobpie_main.specs.declared.status.Status.{Status}
-use Rattle.gobpie_main.specs.declared.status.Status.TheVariants.{Ok, Usage, ReadFault, WriteFault, SourceRefused, Spent, Memory}
+use Rattle.gobpie_main.specs.declared.status.Status.TheVariants.{Ok, Usage, ReadFault, WriteFault, SourceRefused, Spent}
 use Rattle.gobpie_main.specs.Answer.{IsRefused, Said, TextCompletes, TextSpends, Wrote, refused_line}
 
 -- The status tells what is so of the text, and what the sink, which tells `before` and `after`, got.

@@ -1,5 +1,5 @@
 -- What words ask for.
-use Rattle.std.specs.Prelude.{◌≡◌, ◌≢◌, ℕ, List, [], ◌∷◌, Some, None, Option, IsUtf8, codes, slice_get}
+use Rattle.std.specs.Prelude.{◌≡◌, ◌≢◌, ℕ, List, [], ◌∷◌, Some, IsUtf8, codes, slice_get}
 
 -- a word that names a file: UTF-8, not empty, and without a `-` in front
 pub record IsFileWord (word : List ℕ) : Type 0 where

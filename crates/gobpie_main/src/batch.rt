@@ -69,10 +69,7 @@ fn analyse<F: Files, O: Sink>(alloc: Global, name: &str, files: &mut F, out: &mu
             say(out, b"refused 1:1 TooLong\n");
             Status::SourceRefused
         }
-        Err(FileFail::Memory) => {
-            say(out, b"memory\n");
-            Status::Memory
-        }
+        Err(FileFail::Memory) => want_of_memory(out),
     }
 }
 
@@ -91,10 +88,7 @@ fn analyse_text<O: Sink>(alloc: Global, text: &[u8], out: &mut O) -> Status
             say(out, b"refused 1:1 NotBuilt\n");
             Status::SourceRefused
         }
-        Err(LoneFault::Memory) => {
-            say(out, b"memory\n");
-            Status::Memory
-        }
+        Err(LoneFault::Memory) => want_of_memory(out),
     }
 }
 
@@ -120,11 +114,17 @@ fn analyse_program<O: Sink>(alloc: Global, program: &Program, out: &mut O) -> St
             say(out, b"spent 100000\n");
             Status::Spent
         }
-        Err(_) => {
-            say(out, b"memory\n");
-            Status::Memory
-        }
+        Err(_) => want_of_memory(out),
     }
+}
+
+/// Answers want of memory, and writes its line.
+pub fn want_of_memory<O: Sink>(out: &mut O) -> Status
+    ensures status { result ≡ Status.Memory }
+    ensures said { Said (O.written out.old) (O.written out.new) (O.write_faults out.old) (O.write_faults out.new) memory_line }
+{
+    say(out, b"memory\n");
+    Status::Memory
 }
 
 /// Writes a line, as far as the sink takes it.

@@ -26,7 +26,7 @@ fn status_of(rt: &HostRuntime) -> Status {
     let mut out = StdOut::new(rt.stdout());
     match words_of(rt) {
         Ok(words) => batch::run_batch(rt.alloc(), words.as_slice(), &mut files, &mut out),
-        Err(error) if error.kind() == io::ErrorKind::OutOfMemory => Status::Memory,
+        Err(error) if error.kind() == io::ErrorKind::OutOfMemory => batch::want_of_memory(&mut out),
         // A word that isn't UTF-8 has no reading, and neither have no words at all.
         Err(_) => batch::run_batch(rt.alloc(), &[], &mut files, &mut out),
     }

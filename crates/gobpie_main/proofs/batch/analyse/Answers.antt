@@ -1,4 +1,4 @@
-use Rattle.std.proofs.Common.{◌≡◌, ◌<◌, ◌∙◌, inl, List, ℕ, length, rules, subst}
+use Rattle.std.proofs.Common.{◌<◌, ◌∙◌, inl, List, ℕ, length, rules, subst}
 use Rattle.gobpie_main.specs.Batch.{AnswersText}
 use Rattle.gobpie_main.proofs.Telling.{loaded_text, too_long_text, long_test}
 use Rattle.gobpie_main.proofs.batch.analyse.Goals as goal

@@ -1,4 +1,4 @@
-use Rattle.std.proofs.Common.{◌≡◌, ◌++◌, ◌∷◌, [], ◌<◌, ◌+◌, ℕ, List, Option, None, Some, length, slice_get, sym, ap, ◌∙◌, subst, arith, rules, refl}
+use Rattle.std.proofs.Common.{◌≡◌, ◌++◌, ◌∷◌, [], ◌+◌, ℕ, List, None, length, slice_get, sym, ap, ◌∙◌, subst, arith, refl}
 use Rattle.std.proofs.lemmas.List.{length_push}
 use Rattle.constraint_sys.proofs.Replaying.{Replays-push}
 use Rattle.constraint_sys.proofs.SoundTurns.{IsSound-turned}
