@@ -1,10 +1,10 @@
-//! From the text of a C program to its trees. So far it takes one form: a `main` that stands
-//! alone, with int locals, sums and assignments.
+//! The grammar of GobPie's C profile: tokens to trees with names as written, or the first fault.
 #![tactic(auto)]
 
-mod lone;
+mod fault;
+mod raw;
 
-pub use lone::{LoneFault, lone_main, one_program};
-
-#[cfg(test)]
-mod tests;
+pub use fault::{ExprFault, ParseFault};
+pub use raw::{
+    RawExpr, RawHead, RawItem, RawName, RawParam, RawPlaced, RawReturn, RawStmt, RawUnit,
+};

@@ -2,7 +2,7 @@
 use Rattle.std.specs.Prelude.{◌≡◌, ◌≢◌, ◌⊎◌, ℕ, ◌<◌, ◌≤◌, nat_le, List, [], ◌++◌, length, take, codes, Option, None, Some, option_map, if◌then◌else◌}
 use Rattle.gob_tree.specs.declared.graph.Program.{Program}
 use Rattle.gob_outside.specs.Count.{Rose}
-use Rattle.c_parse.specs.LoneProgram.{IsLoneProgram}
+use Rattle.c_lone.specs.LoneProgram.{IsLoneProgram}
 use Rattle.constraint_sys.specs.PostSolution.{IsPostSolution}
 use Rattle.constraint_sys.specs.Turn.{Replays, Solving, initial_of}
 use Rattle.constraint_sys.specs.declared.unknown.Unknown.{Unknown}

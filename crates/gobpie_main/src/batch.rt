@@ -10,7 +10,7 @@ ghost use Rattle.gobpie_main.specs.Answer.{Completes, Spends, TellsText, Wrote, 
 use crate::report::{Report, report_on};
 use crate::status::Status;
 use crate::words::file_word;
-use c_parse::{LoneFault, lone_main};
+use c_lone::{LoneFault, lone_main};
 use gob_outside::{FileFail, Files, Sink, write_all};
 use gob_tree::{Program, Text};
 use std::alloc::Global;

@@ -1,6 +1,6 @@
 use Rattle.std.proofs.Common.{inr, rules}
 use Rattle.gob_tree.specs.declared.graph.Program.{Program}
-use Rattle.c_parse.specs.LoneProgram.{IsLoneProgram}
+use Rattle.c_lone.specs.LoneProgram.{IsLoneProgram}
 use Rattle.gobpie_main.proofs.Telling.{short_test}
 use Rattle.gobpie_main.proofs.batch.analyse_text.Goals as goal
 

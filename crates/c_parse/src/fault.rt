@@ -1,0 +1,31 @@
+use gob_tree::Place;
+use thiserror::Error;
+
+/// Why the tokens of a text are no unit. Of all faults it is the one at the least place.
+#[derive(Clone, Copy, Debug, PartialEq, Eq, Error)]
+pub enum ParseFault {
+    /// No unit goes on with the token at this place after the tokens before it. At the end of the
+    /// text it is the place after the last byte.
+    #[error("this can't stand here")]
+    Unexpected(Place),
+    /// The same of a keyword of C17 (6.4.1) that the profile doesn't write.
+    #[error("this keyword is not supported")]
+    Unsupported(Place),
+    /// A declaration or statement within 64 others, or the 65th operator of an expression.
+    #[error("this is nested too deeply")]
+    TooDeep(Place),
+    /// Want of memory. It tells nothing of the text.
+    #[error("out of memory")]
+    Memory,
+}
+
+/// Why a text is no expression without calls.
+#[derive(Clone, Copy, Debug, PartialEq, Eq, Error)]
+pub enum ExprFault {
+    /// The text isn't an expression, or it has a call, an arbitrary number or too many operators.
+    #[error("this is no expression")]
+    NotAnExpression,
+    /// Want of memory. It tells nothing of the text.
+    #[error("out of memory")]
+    Memory,
+}
