@@ -290,7 +290,7 @@ module _ (tree : LoneMain) (body : is_body tree.statements ≡ true) (few : leng
 
   tree_formed : IsFormed (program_of tree)
   tree_formed = record {
-    main_there = (refl, refl);
+    main_there = (refl, refl, refl);
     names_differ = λ i j d before within. absurd (omega arith);
     functions_formed = one_of_each (IsFormedFunction (program_of tree)) (graph_of tree) graph_formed;
     initials_fit = All-from_recursion (λ (g : GlobalDecl). IsTrue (fits g.width g.initial)) [] tt;

@@ -1,6 +1,7 @@
 -- What a program is to be before an analysis takes it.
 use Rattle.std.specs.Prelude.{◌≡◌, ◌≢◌, ℕ, ◌^◌, ◌<◌, ◌≤◌, ◌++◌, Bool, false, ◌&&◌, nat_lt, List, length, map, sum, slice_get, All, AllPairs, IsSomeAnd, IsTrue, IfSome}
-use Rattle.gob_tree.specs.Widths.{fits}
+use Rattle.gob_tree.specs.Widths.{fits, returned_width}
+use Rattle.gob_tree.specs.declared.expr.Width.TheVariants.{W32}
 use Rattle.gob_tree.specs.declared.expr.Expr.{Expr}
 use Rattle.gob_tree.specs.declared.expr.Expr.TheOpen.{Expr-F}
 use Rattle.gob_tree.specs.declared.expr.Expr.TheFolds.{fold-Expr}
@@ -70,7 +71,7 @@ abbrev pub node_count : Program → ℕ
 node_count p = sum (map (λ (f : FuncGraph). length f.nodes) p.funcs)
 
 pub record IsFormed (p : Program) : Type 0 where
-  pub main_there : IsSomeAnd (slice_get p.funcs p.main) (λ f. (f.kind ≡ Int) × (f.params ≡ 0))
+  pub main_there : IsSomeAnd (slice_get p.funcs p.main) (λ f. (f.kind ≡ Int) × (f.params ≡ 0) × (returned_width f.slots ≡ W32))
   pub names_differ : AllPairs (λ (a b : List ℕ). a ≢ b) (names_of p)
   pub functions_formed : All (IsFormedFunction p) p.funcs
   pub initials_fit : All (λ (g : GlobalDecl). IsTrue (fits g.width g.initial)) p.globals
