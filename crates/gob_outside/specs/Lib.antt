@@ -2,3 +2,8 @@ pub mod Count
 pub mod MemSink
 pub mod Faults
 pub mod MemFiles
+pub mod Source
+pub mod Door
+pub mod MemSource
+pub mod MemDoor
+pub mod Steps

@@ -1,5 +1,5 @@
 -- What a sink in memory does: each call as a function of the sink's state.
-use Rattle.std.specs.Prelude.{ℕ, ◌-◌, nat_eq, List, ◌++◌, length, min, if◌then◌else◌, Result, Ok, Err}
+use Rattle.std.specs.Prelude.{◌≡◌, ℕ, ◌≤◌, ◌-◌, nat_eq, List, ◌++◌, length, min, if◌then◌else◌, Result, Ok, Err}
 use Rattle.gob_outside.specs.Count.{one_more, fails_next}
 use Rattle.gob_outside.specs.declared.failed.Failed.{Failed}
 
@@ -45,3 +45,10 @@ after_moving sink bytes = record sink {
 -- the state after a call that failed
 abbrev pub after_failure : SinkState → SinkState
 after_failure sink = record sink { calls = one_more sink.calls; faults = one_more sink.faults }
+
+-- writes put bytes at the end, and their count of faults didn't fall
+pub record WritesOn (before after : SinkState) : Type 0 where
+  pub written : (more : List ℕ) × (after.written ≡ before.written ++ more)
+  pub piece : after.piece ≡ before.piece
+  pub failing : after.failing ≡ before.failing
+  pub faults : before.faults ≤ after.faults

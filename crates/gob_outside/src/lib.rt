@@ -3,21 +3,36 @@
 //! files and streams meet them.
 #![tactic(auto)]
 
+mod calls;
+mod connection;
+mod door;
 mod failed;
 mod faults;
 mod files;
+mod gate;
+mod mem_conn;
+mod mem_door;
 mod mem_files;
 mod mem_sink;
+mod mem_source;
 mod sink;
+mod source;
 mod std_files;
 mod std_out;
 mod write;
 
+pub use connection::Connection;
+pub use door::Door;
 pub use failed::Failed;
 pub use files::{FileFail, Files};
+pub use gate::{Gate, OpenGate};
+pub use mem_conn::MemConn;
+pub use mem_door::MemDoor;
 pub use mem_files::MemFiles;
 pub use mem_sink::MemSink;
+pub use mem_source::MemSource;
 pub use sink::Sink;
+pub use source::Source;
 pub use std_files::StdFiles;
 pub use std_out::StdOut;
 pub use write::{Short, write_all};

@@ -1,7 +1,9 @@
 ghost use Rattle.std.specs.Prelude.{◌≡◌, ◌<◌, ◌≤◌, ◌+◌, ◌-◌, [], length, take, vec_len, min, Some, IfOk, OnErr, MatchResult};
-ghost use Rattle.gob_outside.specs.Count.{Rose, one_more, fails_next};
-ghost use Rattle.gob_outside.specs.MemSink.{write_answer, flush_answer, after_moving, after_failure};
+ghost use Rattle.gob_outside.specs.Count.{Rose};
+ghost use Rattle.gob_outside.specs.MemSink.{WritesOn, write_answer, flush_answer, after_moving, after_failure};
+ghost use Rattle.gob_outside.specs.Steps.{writes_stay, writes_go_on};
 
+use crate::calls::fails_now;
 use crate::failed::Failed;
 use crate::sink::Sink;
 use gob_tree::Memory;
@@ -74,27 +76,9 @@ impl MemSink {
     {
         &self.bytes[..self.len]
     }
-}
 
-// Counts a call, and tells whether it is one of those that fail.
-fn fails_now(failing: &[u64], calls: &mut u64) -> bool
-    ensures count { calls.new ≡ one_more calls.old }
-    ensures answer { result ≡ fails_next failing.now calls.old }
-{
-    *calls = calls.saturating_add(1);
-    failing.contains(calls)
-}
-
-impl Sink for MemSink {
-    ghost written = { λ sink. Some sink.written };
-
-    ghost write_faults = { λ sink. sink.faults };
-
-    ghost write_step = { λ _ _. Unit {0} };
-
-    /// Moves as many bytes as the piece and the room allow. A piece that isn't empty fails where
-    /// no room is left.
-    fn write(&mut self, piece: &[u8]) -> Result<usize, Failed>
+    // Moves as many bytes as the piece and the room allow, where this call isn't one that fails.
+    fn write_piece(&mut self, piece: &[u8]) -> Result<usize, Failed>
         ensures answer { result ≡ write_answer self.old piece.now }
         ensures state { MatchResult result
             (λ n. self.new ≡ after_moving self.old (take n piece.now))
@@ -120,6 +104,31 @@ impl Sink for MemSink {
         self.len += count;
         Ok(count)
     }
+}
+
+impl Sink for MemSink {
+    ghost written = { λ sink. Some sink.written };
+
+    ghost write_faults = { λ sink. sink.faults };
+
+    ghost write_step = { WritesOn };
+
+    /// Moves as many bytes as the piece and the room allow. A piece that isn't empty fails where
+    /// no room is left.
+    #[tactic(auto, using(crate::proofs::Steps::write_is_step, crate::proofs::Steps::failed_write_is_step))]
+    fn write(&mut self, piece: &[u8]) -> Result<usize, Failed>
+        ensures answer { result ≡ write_answer self.old piece.now }
+        ensures state { MatchResult result
+            (λ n. self.new ≡ after_moving self.old (take n piece.now))
+            (λ _. self.new ≡ after_failure self.old) }
+        ensures within { IfOk result (λ n. n ≤ length piece.now) }
+        ensures moves { IfOk result (λ n. 0 < length piece.now → 0 < n) }
+        ensures failed { OnErr result (Rose self.old.faults self.new.faults) }
+        ensures never_falls { self.old.faults ≤ self.new.faults }
+        ensures step { WritesOn self.old self.new }
+    {
+        self.write_piece(piece)
+    }
 
     fn flush(&mut self) -> Result<(), Failed>
         ensures answer { result ≡ flush_answer self.old }
@@ -128,6 +137,7 @@ impl Sink for MemSink {
             (λ _. self.new ≡ after_failure self.old) }
         ensures failed { OnErr result (Rose self.old.faults self.new.faults) }
         ensures never_falls { self.old.faults ≤ self.new.faults }
+        ensures step { WritesOn self.old self.new }
     {
         if fails_now(&self.failing, &mut self.calls) {
             self.faults = self.faults.saturating_add(1);
@@ -136,9 +146,9 @@ impl Sink for MemSink {
         Ok(())
     }
 
-    ghost write_stays = { λ _. tt };
+    ghost write_stays = { writes_stay };
 
-    ghost write_goes_on = { λ _ _ _ _ _. tt };
+    ghost write_goes_on = { writes_go_on };
 }
 
 #[cfg(test)]
