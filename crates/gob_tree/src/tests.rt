@@ -1,4 +1,8 @@
-use crate::{BinOp, Boxed, Expr, Place, Placed, Seq, Stmt, Target, Text, Width};
+use crate::{
+    Action, BinOp, Boxed, Edge, Expr, FuncGraph, FuncKind, GlobalDecl, Memory, Place, Placed,
+    Program, Seq, Slot, Stmt, Target, Text, Width, same_function,
+};
+use std::alloc::Global;
 use std::test::Fail;
 
 #[test]
@@ -52,4 +56,130 @@ fn is_next(sum: &Expr) -> bool {
         }
         _ => false,
     }
+}
+
+fn slots_of(alloc: Global, width: Width) -> Result<Seq<Slot>, Memory> {
+    let mut slots = Seq::new(alloc);
+    slots.push(Slot {
+        name: Text::of(alloc, b"")?,
+        width: Width::W32,
+    })?;
+    slots.push(Slot {
+        name: Text::of(alloc, b"x")?,
+        width,
+    })?;
+    Ok(slots)
+}
+
+fn edges_of(alloc: Global, callee: u16, global: u16, mutex: u16) -> Result<Seq<Edge>, Memory> {
+    let mut args = Seq::new(alloc);
+    args.push(Expr::Local(1))?;
+    let mut edges = Seq::new(alloc);
+    edges.push(Edge {
+        from: 0,
+        act: Action::Lock(mutex),
+        to: 2,
+    })?;
+    edges.push(Edge {
+        from: 2,
+        act: Action::Read(1, global),
+        to: 3,
+    })?;
+    edges.push(Edge {
+        from: 3,
+        act: Action::Call(Some(1), callee, args),
+        to: 1,
+    })?;
+    Ok(edges)
+}
+
+fn graph_of(
+    alloc: Global,
+    name: &[u8],
+    line: u32,
+    width: Width,
+    edges: Seq<Edge>,
+) -> Result<FuncGraph, Memory> {
+    let mut nodes = Seq::new(alloc);
+    nodes.push(Place { line, column: 1 })?;
+    nodes.push(Place { line, column: 9 })?;
+    Ok(FuncGraph {
+        name: Text::of(alloc, name)?,
+        kind: FuncKind::Int,
+        params: 0,
+        slots: slots_of(alloc, width)?,
+        threads: Seq::new(alloc),
+        nodes,
+        edges,
+    })
+}
+
+fn program_of(
+    alloc: Global,
+    first: FuncGraph,
+    second: FuncGraph,
+    names: &[&[u8]; 2],
+) -> Result<Program, Memory> {
+    let mut funcs = Seq::new(alloc);
+    funcs.push(first)?;
+    funcs.push(second)?;
+    let mut globals = Seq::new(alloc);
+    let mut mutexes = Seq::new(alloc);
+    for name in names {
+        globals.push(GlobalDecl {
+            name: Text::of(alloc, name)?,
+            width: Width::W32,
+            initial: 0,
+        })?;
+        mutexes.push(Text::of(alloc, name)?)?;
+    }
+    Ok(Program {
+        funcs,
+        globals,
+        mutexes,
+        main: 0,
+    })
+}
+
+#[test]
+fn numbers_are_read_as_names(rt: HostRuntime) -> Result<(), Fail> {
+    let alloc = rt.alloc();
+    let main = graph_of(alloc, b"main", 1, Width::W32, edges_of(alloc, 1, 0, 1)?)?;
+    let add = graph_of(alloc, b"add", 9, Width::W32, Seq::new(alloc))?;
+    let a = program_of(alloc, main, add, &[b"g", b"h"])?;
+    let add = graph_of(alloc, b"add", 2, Width::W32, Seq::new(alloc))?;
+    let main = graph_of(alloc, b"main", 5, Width::W32, edges_of(alloc, 0, 1, 0)?)?;
+    let b = program_of(alloc, add, main, &[b"h", b"g"])?;
+    assert!(rt;
+        same_function(&a, 0, &b, 1),
+        "other numbers and places, the same names"
+    );
+    assert!(rt; same_function(&a, 1, &b, 0));
+    assert!(rt; !same_function(&a, 0, &b, 0));
+    assert!(rt; !same_function(&a, 2, &b, 2), "no such function");
+    let add = graph_of(alloc, b"add", 2, Width::W32, Seq::new(alloc))?;
+    let main = graph_of(alloc, b"main", 5, Width::W32, edges_of(alloc, 1, 0, 1)?)?;
+    let c = program_of(alloc, add, main, &[b"h", b"g"])?;
+    assert!(rt;
+        !same_function(&a, 0, &c, 1),
+        "the same numbers, other names"
+    );
+    Ok(())
+}
+
+#[test]
+fn widths_and_the_order_of_edges_count(rt: HostRuntime) -> Result<(), Fail> {
+    let alloc = rt.alloc();
+    let long = graph_of(alloc, b"f", 1, Width::W64, edges_of(alloc, 1, 0, 1)?)?;
+    let mut edges = edges_of(alloc, 1, 0, 1)?.into_vec();
+    edges.reverse();
+    let turned = graph_of(alloc, b"f", 1, Width::W32, Seq::from_vec(edges))?;
+    let a = program_of(alloc, long, turned, &[b"g", b"h"])?;
+    let plain = graph_of(alloc, b"f", 1, Width::W32, edges_of(alloc, 1, 0, 1)?)?;
+    let again = graph_of(alloc, b"f", 1, Width::W32, edges_of(alloc, 0, 0, 1)?)?;
+    let b = program_of(alloc, plain, again, &[b"g", b"h"])?;
+    assert!(rt; !same_function(&a, 0, &b, 0));
+    assert!(rt; !same_function(&a, 1, &b, 0));
+    assert!(rt; same_function(&b, 0, &b, 1), "two functions of one name");
+    Ok(())
 }
