@@ -1,0 +1,15 @@
+pub mod WordKinds
+pub mod ArgRules
+pub mod ClapTurns
+pub mod ClapEnding
+pub mod ClapLevel
+pub mod SoundForms
+pub mod ItemRows
+pub mod ClapReads
+pub mod AnyForm
+pub mod CommandReads
+pub mod Literals
+pub mod Spellings
+pub mod Saying
+pub mod Numerals
+pub mod TextNames
