@@ -7,19 +7,19 @@ use Rattle.gob_tree.specs.declared.expr.Expr.{Local, Binary, Call}
 use Rattle.gob_tree.specs.declared.stmt.Target.{Target}
 use Rattle.gob_tree.specs.declared.stmt.Stmt.TheOpen.{Stmt-F}
 use Rattle.gob_tree.specs.declared.unit.Function.{Function}
-use Rattle.c_meaning.specs.Graph.{Draft, Lowering, Spot, Hoisting, lowering_step, draft_of, hoisted_expr, hoisting_of, hoisting_step, hoist_all, call_fetch, lowering_of, sequence, first_route, first_draft, body_start}
+use Rattle.c_meaning.specs.Graph.{FlowGraph, Lowering, HoistState, Hoisting, lowering_step, flow_of, hoisted_expr, hoisting_of, hoisting_step, hoist_all, call_fetch, lowering_of, sequence, body_route, first_flow, body_start}
 use Rattle.c_meaning.proofs.Folds.{fold-Number, fold-Local, fold-Call}
 use Rattle.c_meaning.proofs.Evaluation.{expressions, statements}
 use Rattle.c_meaning.specs.Samples.{place, int}
 use Rattle.c_meaning.specs.StepExamples.{calling_main, called}
-use Rattle.c_meaning.specs.GraphExamples.{counting, counting_draft, doubling, doubling_draft, joining, joining_draft, looping, looping_draft}
-use Rattle.c_meaning.specs.WalkExamples.{called_draft, calling_draft}
+use Rattle.c_meaning.specs.GraphExamples.{counting, counting_flow, doubling, doubling_flow, joining, joining_flow, looping, looping_flow}
+use Rattle.c_meaning.specs.WalkExamples.{called_flow, calling_flow}
 
 -- ---- graphs
 
--- what is drawn of a function whose body's statements are lowered so
-drawn_by : Function → List Lowering → Draft
-drawn_by f ls = sequence ls first_route (record { named = length f.slots; temps = []; nodes = f.place ∷ f.end ∷ body_start ls f.end ∷ []; drawn = (first_draft f).drawn })
+-- what is edges of a function whose body's statements are lowered so
+flow_by : Function → List Lowering → FlowGraph
+flow_by f ls = sequence ls body_route (record { named = length f.slots; temps = []; nodes = f.place ∷ f.end ∷ body_start ls f.end ∷ []; edges = (first_flow f).edges })
 
 counting_lowered : List Lowering
 counting_lowered =
@@ -43,23 +43,23 @@ looping_is : map lowering_of looping.body ≡ looping_lowered
 unfolding looping_lowered
 looping_is = simp statements
 
-counting_worked : drawn_by counting counting_lowered ≡ counting_draft
-unfolding drawn_by counting_lowered
+counting_worked : flow_by counting counting_lowered ≡ counting_flow
+unfolding flow_by counting_lowered
 counting_worked = simp (expressions, hoisted_expr)
 
-pub counting_graph : draft_of counting ≡ counting_draft
-unfolding drawn_by
-counting_graph = ap (λ (ls : List Lowering). drawn_by counting ls) counting_is ∙ counting_worked
+pub counting_graph : flow_of counting ≡ counting_flow
+unfolding flow_by
+counting_graph = ap (λ (ls : List Lowering). flow_by counting ls) counting_is ∙ counting_worked
 
-looping_worked : drawn_by looping looping_lowered ≡ looping_draft
-unfolding drawn_by looping_lowered
+looping_worked : flow_by looping looping_lowered ≡ looping_flow
+unfolding flow_by looping_lowered
 looping_worked = simp (expressions, hoisted_expr)
 
-pub bare_for_and_do : draft_of looping ≡ looping_draft
-unfolding drawn_by
-bare_for_and_do = ap (λ (ls : List Lowering). drawn_by looping ls) looping_is ∙ looping_worked
+pub bare_for_and_do : flow_of looping ≡ looping_flow
+unfolding flow_by
+bare_for_and_do = ap (λ (ls : List Lowering). flow_by looping ls) looping_is ∙ looping_worked
 
-pub two_reads : draft_of doubling ≡ doubling_draft
+pub two_reads : flow_of doubling ≡ doubling_flow
 two_reads = simp (expressions, statements, hoisted_expr)
 
 calling_lowered : List Lowering
@@ -73,21 +73,21 @@ unfolding calling_lowered
 calling_is = simp statements
 
 -- the hoisting of the call
-call_hoists : (pl : Place) (s : Spot) → (hoisting_of (Call 0 W32 (int 1 ∷ []))).hoist pl s ≡ call_fetch 0 W32 pl (int 1 ∷ [], s)
+call_hoists : (pl : Place) (s : HoistState) → (hoisting_of (Call 0 W32 (int 1 ∷ []))).hoist pl s ≡ call_fetch 0 W32 pl (int 1 ∷ [], s)
 call_hoists pl s =
     ap (λ (h : Hoisting). h.hoist pl s) (fold-Call Hoisting hoisting_step 0 W32 (int 1 ∷ []))
     ∙ ap (λ (h : Hoisting). call_fetch 0 W32 pl (hoist_all (h ∷ []) pl s)) (fold-Number Hoisting hoisting_step (pos 1) W32)
 
-calling_worked : drawn_by calling_main calling_lowered ≡ calling_draft
-unfolding drawn_by calling_lowered
+calling_worked : flow_by calling_main calling_lowered ≡ calling_flow
+unfolding flow_by calling_lowered
 calling_worked = simp (fold-Local, call_hoists, hoisted_expr)
 
-pub call_in_expression : draft_of calling_main ≡ calling_draft
-unfolding drawn_by
-call_in_expression = ap (λ (ls : List Lowering). drawn_by calling_main ls) calling_is ∙ calling_worked
+pub call_in_expression : flow_of calling_main ≡ calling_flow
+unfolding flow_by
+call_in_expression = ap (λ (ls : List Lowering). flow_by calling_main ls) calling_is ∙ calling_worked
 
-pub called_graph : draft_of called ≡ called_draft
+pub called_graph : flow_of called ≡ called_flow
 called_graph = simp (expressions, statements, hoisted_expr)
 
-pub and_with_input : draft_of joining ≡ joining_draft
+pub and_with_input : flow_of joining ≡ joining_flow
 and_with_input = simp (expressions, statements, hoisted_expr)

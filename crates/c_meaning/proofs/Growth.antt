@@ -4,7 +4,7 @@ use Rattle.std.proofs.Common.{◌≡◌, ◌≢◌, refl, sym, ap, ◌∙◌, su
 use Rattle.std.specs.Prelude.{if◌then◌else◌, nat_eq, slice_index_or}
 use Rattle.gob_tree.specs.declared.place.Place.{Place}
 use Rattle.gob_tree.specs.declared.graph.Action.{Action}
-use Rattle.c_meaning.specs.Graph.{Drawn, Draft, next_node, with_node, with_edge, with_silent}
+use Rattle.c_meaning.specs.Graph.{MarkedEdge, FlowGraph, next_node, with_node, with_edge, with_silent}
 use Rattle.c_meaning.proofs.Induct.{Each}
 
 -- ---- lists
@@ -25,22 +25,22 @@ each_at P (x ∷ xs) a (suc k) d h = each_at P xs a.1 k d (omega arith)
 -- ---- ends of silent edges
 
 -- a fact of the two ends of each silent edge
-abbrev pub Ends : (ℕ → ℕ → Type 0) → List Drawn → Type 0
-Ends P drawn = Each (λ d. d.silent ≡ true → P d.edge.from d.edge.to) drawn
+abbrev pub Ends : (ℕ → ℕ → Type 0) → List MarkedEdge → Type 0
+Ends P edges = Each (λ d. d.silent ≡ true → P d.edge.from d.edge.to) edges
 
-pub ends_append : (P : ℕ → ℕ → Type 0) (xs ys : List Drawn) → Ends P xs → Ends P ys → Ends P (xs ++ ys)
+pub ends_append : (P : ℕ → ℕ → Type 0) (xs ys : List MarkedEdge) → Ends P xs → Ends P ys → Ends P (xs ++ ys)
 ends_append P xs ys a b = each_append (λ d. d.silent ≡ true → P d.edge.from d.edge.to) xs ys a b
 
-pub ends_map : (P Q : ℕ → ℕ → Type 0) → ((from to : ℕ) → P from to → Q from to) → (xs : List Drawn) → Ends P xs → Ends Q xs
+pub ends_map : (P Q : ℕ → ℕ → Type 0) → ((from to : ℕ) → P from to → Q from to) → (xs : List MarkedEdge) → Ends P xs → Ends Q xs
 ends_map P Q f xs a = each_map (λ d. d.silent ≡ true → P d.edge.from d.edge.to) (λ d. d.silent ≡ true → Q d.edge.from d.edge.to) (λ d p s. f d.edge.from d.edge.to (p s)) xs a
 
 -- a rank of the nodes that rises along each silent edge
-abbrev pub Rises : (ℕ → ℕ) → List Drawn → Type 0
-Rises rank drawn = Ends (λ from to. rank from < rank to) drawn
+abbrev pub Rises : (ℕ → ℕ) → List MarkedEdge → Type 0
+Rises rank edges = Ends (λ from to. rank from < rank to) edges
 
-pub record Ranked (drawn : List Drawn) : Type 0 where
+pub record Ranked (edges : List MarkedEdge) : Type 0 where
   pub rank : ℕ → ℕ
-  pub rises : Rises rank drawn
+  pub rises : Rises rank edges
 
 -- one edge more, which leads to a node that no silent edge leaves: the node is ranked above both
 raised : (ℕ → ℕ) → ℕ → ℕ → ℕ → ℕ
@@ -58,10 +58,10 @@ raised_at_least : (rank : ℕ → ℕ) (from to n : ℕ) → rank n ≤ raised r
 unfolding raised
 raised_at_least rank from to n = grind arith
 
-pub ranked_into : (drawn : List Drawn) (e : Drawn) → Ranked drawn → Ends (λ from to. from ≢ e.edge.to) drawn → e.edge.from ≢ e.edge.to → Ranked (drawn ++ e ∷ [])
-ranked_into drawn e r ends apart = record {
+pub ranked_into : (edges : List MarkedEdge) (e : MarkedEdge) → Ranked edges → Ends (λ from to. from ≢ e.edge.to) edges → e.edge.from ≢ e.edge.to → Ranked (edges ++ e ∷ [])
+ranked_into edges e r ends apart = record {
   rank = rank';
-  rises = ends_append (λ from to. rank' from < rank' to) drawn (e ∷ []) (both drawn r.rises ends) ((λ s. here), tt);
+  rises = ends_append (λ from to. rank' from < rank' to) edges (e ∷ []) (both edges r.rises ends) ((λ s. here), tt);
 }
   where
     rank' : ℕ → ℕ
@@ -79,7 +79,7 @@ ranked_into drawn e r ends apart = record {
         let b : rank' e.edge.to ≡ max (r.rank e.edge.to) (r.rank e.edge.from + 1) = raised_here r.rank e.edge.from e.edge.to e.edge.to refl in
         omega arith
 
-    both : (xs : List Drawn) → Rises r.rank xs → Ends (λ from to. from ≢ e.edge.to) xs → Rises rank' xs
+    both : (xs : List MarkedEdge) → Rises r.rank xs → Ends (λ from to. from ≢ e.edge.to) xs → Rises rank' xs
     both [] a b = tt
     both (x ∷ xs) a b = ((λ s. old x.edge.from x.edge.to (a.0 s) (b.0 s)), both xs a.1 b.1)
 
@@ -99,10 +99,10 @@ lowered_at_most : (rank : ℕ → ℕ) (from n : ℕ) → lowered_rank rank from
 unfolding lowered_rank
 lowered_at_most rank from n = grind arith
 
-pub ranked_out_of : (drawn : List Drawn) (e : Drawn) → Ranked drawn → Ends (λ from to. to ≢ e.edge.from) drawn → e.edge.from ≢ e.edge.to → Ranked (drawn ++ e ∷ [])
-ranked_out_of drawn e r ends apart = record {
+pub ranked_out_of : (edges : List MarkedEdge) (e : MarkedEdge) → Ranked edges → Ends (λ from to. to ≢ e.edge.from) edges → e.edge.from ≢ e.edge.to → Ranked (edges ++ e ∷ [])
+ranked_out_of edges e r ends apart = record {
   rank = rank';
-  rises = ends_append (λ from to. rank' from < rank' to) drawn (e ∷ []) (both drawn r.rises ends) ((λ s. here), tt);
+  rises = ends_append (λ from to. rank' from < rank' to) edges (e ∷ []) (both edges r.rises ends) ((λ s. here), tt);
 }
   where
     rank' : ℕ → ℕ
@@ -120,56 +120,56 @@ ranked_out_of drawn e r ends apart = record {
         let b : rank' e.edge.to ≡ r.rank e.edge.to + 1 = lowered_else r.rank e.edge.from e.edge.to (λ q. apart (sym q)) in
         omega arith
 
-    both : (xs : List Drawn) → Rises r.rank xs → Ends (λ from to. to ≢ e.edge.from) xs → Rises rank' xs
+    both : (xs : List MarkedEdge) → Rises r.rank xs → Ends (λ from to. to ≢ e.edge.from) xs → Rises rank' xs
     both [] a b = tt
     both (x ∷ xs) a b = ((λ s. old x.edge.from x.edge.to (a.0 s) (b.0 s)), both xs a.1 b.1)
 
-ranked_loud : (drawn : List Drawn) (e : Drawn) → e.silent ≡ false → Ranked drawn → Ranked (drawn ++ e ∷ [])
-ranked_loud drawn e loud r = record {
+ranked_visible : (edges : List MarkedEdge) (e : MarkedEdge) → e.silent ≡ false → Ranked edges → Ranked (edges ++ e ∷ [])
+ranked_visible edges e visible_edge r = record {
   rank = r.rank;
-  rises = ends_append (λ from to. r.rank from < r.rank to) drawn (e ∷ []) r.rises ((λ s. cc), tt);
+  rises = ends_append (λ from to. r.rank from < r.rank to) edges (e ∷ []) r.rises ((λ s. cc), tt);
 }
 
 -- ---- growth
 
 -- all silent edges lie between nodes that are there
-abbrev pub Below : Draft → Type 0
-Below d = Ends (λ from to. (from < next_node d) × (to < next_node d)) d.drawn
+abbrev pub Below : FlowGraph → Type 0
+Below d = Ends (λ from to. (from < next_node d) × (to < next_node d)) d.edges
 
 -- What is added from a node on, where the nodes from n on are new: silent edges lead to new nodes
 -- only, from this node or from new ones.
 abbrev pub IsNew : ℕ → ℕ → ℕ → ℕ → ℕ → Type 0
 IsNew n at m from to = (n ≤ to) × ((from ≡ at) ⊎ (n ≤ from)) × (from < m) × (to < m)
 
-pub record Adds (n at : ℕ) (d d' : Draft) : Type 0 where
-  pub added : List Drawn
-  pub drawn : d'.drawn ≡ d.drawn ++ added
+pub record Adds (n at : ℕ) (d d' : FlowGraph) : Type 0 where
+  pub added : List MarkedEdge
+  pub edges : d'.edges ≡ d.edges ++ added
   pub nodes : next_node d ≤ next_node d'
   pub ends : Ends (IsNew n at (next_node d')) added
 
 -- what is added keeps a rank
-pub record Grown (n at : ℕ) (d d' : Draft) : Type 0 where
+pub record Grown (n at : ℕ) (d d' : FlowGraph) : Type 0 where
   pub adds : Adds n at d d'
-  pub ranked : Below d → Ranked d.drawn → Ranked d'.drawn
+  pub ranked : Below d → Ranked d.edges → Ranked d'.edges
 
-pub adds_below : (n at : ℕ) (d d' : Draft) → Adds n at d d' → Below d → Below d'
+pub adds_below : (n at : ℕ) (d d' : FlowGraph) → Adds n at d d' → Below d → Below d'
 adds_below n at d d' g b =
-    subst (Ends (λ from to. (from < next_node d') × (to < next_node d'))) (sym g.drawn)
-    (ends_append (λ from to. (from < next_node d') × (to < next_node d')) d.drawn g.added
-    (ends_map (λ from to. (from < next_node d) × (to < next_node d)) (λ from to. (from < next_node d') × (to < next_node d')) (λ from to e. let k = g.nodes in (omega (arith, e.0, k), omega (arith, e.1, k))) d.drawn b)
+    subst (Ends (λ from to. (from < next_node d') × (to < next_node d'))) (sym g.edges)
+    (ends_append (λ from to. (from < next_node d') × (to < next_node d')) d.edges g.added
+    (ends_map (λ from to. (from < next_node d) × (to < next_node d)) (λ from to. (from < next_node d') × (to < next_node d')) (λ from to e. let k = g.nodes in (omega (arith, e.0, k), omega (arith, e.1, k))) d.edges b)
     (ends_map (IsNew n at (next_node d')) (λ from to. (from < next_node d') × (to < next_node d')) (λ from to e. (e.2, e.3)) g.added g.ends))
 
-pub append_nil : (xs : List Drawn) → xs ≡ xs ++ []
+pub append_nil : (xs : List MarkedEdge) → xs ≡ xs ++ []
 append_nil [] = refl
 append_nil (x ∷ xs) = ap (λ l. x ∷ l) (append_nil xs)
 
-pub adds_none : (n at : ℕ) (d : Draft) → Adds n at d d
-adds_none n at d = record { added = []; drawn = append_nil d.drawn; nodes = omega arith; ends = tt }
+pub adds_none : (n at : ℕ) (d : FlowGraph) → Adds n at d d
+adds_none n at d = record { added = []; edges = append_nil d.edges; nodes = omega arith; ends = tt }
 
-pub adds_then : (n at : ℕ) (a b c : Draft) → Adds n at a b → Adds n at b c → Adds n at a c
+pub adds_then : (n at : ℕ) (a b c : FlowGraph) → Adds n at a b → Adds n at b c → Adds n at a c
 adds_then n at a b c g h = record {
   added = g.added ++ h.added;
-  drawn = h.drawn ∙ ap (λ (l : List Drawn). l ++ h.added) g.drawn ∙ append_assoc a.drawn g.added h.added;
+  edges = h.edges ∙ ap (λ (l : List MarkedEdge). l ++ h.added) g.edges ∙ append_assoc a.edges g.added h.added;
   nodes = let p = g.nodes in let q = h.nodes in omega (arith, p, q);
   ends = ends_append (IsNew n at (next_node c)) g.added h.added
       (ends_map (IsNew n at (next_node b)) (IsNew n at (next_node c)) (λ from to e. let q = h.nodes in (e.0, e.1, omega (arith, e.2, q), omega (arith, e.3, q))) g.added g.ends)
@@ -177,10 +177,10 @@ adds_then n at a b c g h = record {
 }
 
 -- what is new from m on and from a node that is new from n on is new from n on
-pub adds_from : (n m at at' : ℕ) (d d' : Draft) → n ≤ m → (at' ≡ at) ⊎ (n ≤ at') → Adds m at' d d' → Adds n at d d'
+pub adds_from : (n m at at' : ℕ) (d d' : FlowGraph) → n ≤ m → (at' ≡ at) ⊎ (n ≤ at') → Adds m at' d d' → Adds n at d d'
 adds_from n m at at' d d' le where_from g = record {
   added = g.added;
-  drawn = g.drawn;
+  edges = g.edges;
   nodes = g.nodes;
   ends = ends_map (IsNew m at' (next_node d')) (IsNew n at (next_node d')) (λ from to e. (omega (arith, e.0), start from e.1, e.2, e.3)) g.added g.ends;
 }
@@ -188,42 +188,42 @@ adds_from n m at at' d d' le where_from g = record {
     start : (from : ℕ) → (from ≡ at') ⊎ (m ≤ from) → (from ≡ at) ⊎ (n ≤ from)
     start from = ⊎_elim (λ e. ⊎_elim (λ q. inl (e ∙ q)) (λ q. inr (omega (arith, e, q))) where_from) (λ q. inr (omega (arith, q)))
 
-pub adds_node : (n at : ℕ) (d : Draft) (place : Place) → Adds n at d (with_node place d)
-adds_node n at d place = record { added = []; drawn = append_nil d.drawn; nodes = let e = length-append d.nodes (place ∷ []) in omega (arith, e); ends = tt }
+pub adds_node : (n at : ℕ) (d : FlowGraph) (place : Place) → Adds n at d (with_node place d)
+adds_node n at d place = record { added = []; edges = append_nil d.edges; nodes = let e = length-append d.nodes (place ∷ []) in omega (arith, e); ends = tt }
 
-pub node_more : (d : Draft) (place : Place) → next_node (with_node place d) ≡ next_node d + 1
+pub node_more : (d : FlowGraph) (place : Place) → next_node (with_node place d) ≡ next_node d + 1
 node_more d place = length-append d.nodes (place ∷ [])
 
-pub adds_edge : (n at : ℕ) (d : Draft) (from : ℕ) (act : Action) (to : ℕ) → Adds n at d (with_edge from act to d)
+pub adds_edge : (n at : ℕ) (d : FlowGraph) (from : ℕ) (act : Action) (to : ℕ) → Adds n at d (with_edge from act to d)
 adds_edge n at d from act to = record {
   added = record { edge = record { from = from; act = act; to = to }; silent = false } ∷ [];
-  drawn = refl;
+  edges = refl;
   nodes = omega arith;
   ends = ((λ s. cc), tt);
 }
 
-pub adds_silent : (n at : ℕ) (d : Draft) (from : ℕ) (act : Action) (to : ℕ) → IsNew n at (next_node d) from to → Adds n at d (with_silent from act to d)
+pub adds_silent : (n at : ℕ) (d : FlowGraph) (from : ℕ) (act : Action) (to : ℕ) → IsNew n at (next_node d) from to → Adds n at d (with_silent from act to d)
 adds_silent n at d from act to new = record {
   added = record { edge = record { from = from; act = act; to = to }; silent = true } ∷ [];
-  drawn = refl;
+  edges = refl;
   nodes = omega arith;
   ends = ((λ s. new), tt);
 }
 
-pub grown_none : (n at : ℕ) (d : Draft) → Grown n at d d
+pub grown_none : (n at : ℕ) (d : FlowGraph) → Grown n at d d
 grown_none n at d = record { adds = adds_none n at d; ranked = λ b r. r }
 
-pub grown_then : (n at : ℕ) (a b c : Draft) → Grown n at a b → Grown n at b c → Grown n at a c
+pub grown_then : (n at : ℕ) (a b c : FlowGraph) → Grown n at a b → Grown n at b c → Grown n at a c
 grown_then n at a b c g h = record {
   adds = adds_then n at a b c g.adds h.adds;
   ranked = λ below r. h.ranked (adds_below n at a b g.adds below) (g.ranked below r);
 }
 
-pub grown_from : (n m at at' : ℕ) (d d' : Draft) → n ≤ m → (at' ≡ at) ⊎ (n ≤ at') → Grown m at' d d' → Grown n at d d'
+pub grown_from : (n m at at' : ℕ) (d d' : FlowGraph) → n ≤ m → (at' ≡ at) ⊎ (n ≤ at') → Grown m at' d d' → Grown n at d d'
 grown_from n m at at' d d' le where_from g = record { adds = adds_from n m at at' d d' le where_from g.adds; ranked = g.ranked }
 
-pub grown_node : (n at : ℕ) (d : Draft) (place : Place) → Grown n at d (with_node place d)
+pub grown_node : (n at : ℕ) (d : FlowGraph) (place : Place) → Grown n at d (with_node place d)
 grown_node n at d place = record { adds = adds_node n at d place; ranked = λ b r. r }
 
-pub grown_edge : (n at : ℕ) (d : Draft) (from : ℕ) (act : Action) (to : ℕ) → Grown n at d (with_edge from act to d)
-grown_edge n at d from act to = record { adds = adds_edge n at d from act to; ranked = λ b r. ranked_loud d.drawn _ refl r }
+pub grown_edge : (n at : ℕ) (d : FlowGraph) (from : ℕ) (act : Action) (to : ℕ) → Grown n at d (with_edge from act to d)
+grown_edge n at d from act to = record { adds = adds_edge n at d from act to; ranked = λ b r. ranked_visible d.edges _ refl r }

@@ -2,7 +2,7 @@
 use Rattle.std.proofs.Common.{◌≡◌, ap, None, Some}
 use Rattle.gob_tree.specs.declared.stmt.Target.{Target}
 use Rattle.c_meaning.specs.Demand.{Meaning, meaning_step}
-use Rattle.c_meaning.specs.Graph.{Draft, Route, Lowering, Hoisting, hoisting_step}
+use Rattle.c_meaning.specs.Graph.{FlowGraph, Route, Lowering, Hoisting, hoisting_step}
 use Rattle.c_meaning.specs.Rows.{WidthRows, DemandRows, UnrollRows, HoistRows, LowerRows}
 use Rattle.c_meaning.proofs.Folds.{fold-Number, fold-Local, fold-Global, fold-Nondet, fold-Unary, fold-Binary, fold-Call}
 use Rattle.c_meaning.proofs.Fronts.{front-Block, front-Block_empty, front-DoWhile, front-For, front-For_bare, front-While, front-If}
@@ -53,7 +53,7 @@ hoist_rows = record {
 }
 
 -- along a route
-along : (r : Route) (d : Draft) (a b : Lowering) → a ≡ b → a.lower r d ≡ b.lower r d
+along : (r : Route) (d : FlowGraph) (a b : Lowering) → a ≡ b → a.lower r d ≡ b.lower r d
 along r d a b e = ap (λ (l : Lowering). l.lower r d) e
 
 pub lower_rows : LowerRows

@@ -3,7 +3,7 @@ use Rattle.std.proofs.Common.{◌≡◌, refl, ap, ℕ, zero, suc, ◌+◌, ◌<
 use Rattle.std.specs.Prelude.{if◌then◌else◌, nat_eq, nat_le, ◌&&◌, ℤ}
 use Rattle.std.specs.Option.{option_map_or}
 use Rattle.gob_tree.specs.declared.unit.Slot.{Slot}
-use Rattle.c_meaning.specs.Graph.{Drawn, draft_of, graph_slots}
+use Rattle.c_meaning.specs.Graph.{MarkedEdge, flow_of, graph_slots}
 use Rattle.c_meaning.specs.GraphStep.{local_slots}
 use Rattle.c_meaning.specs.Walk.{Moment, moment_after, silent_slots, silent_from, first_or, settled_or, settled_within}
 use Rattle.c_meaning.specs.Laws.{SilentEdgesRunOut}
@@ -14,7 +14,7 @@ use Rattle.c_meaning.proofs.SilentStmts.{function_ranked}
 one_if : Bool → ℕ
 one_if b = if b then 1 else 0
 
-above : (ℕ → ℕ) → ℕ → List Drawn → ℕ
+above : (ℕ → ℕ) → ℕ → List MarkedEdge → ℕ
 above rank k [] = 0
 above rank k (d ∷ ds) = one_if (nat_le k (rank d.edge.from)) + above rank k ds
 
@@ -31,7 +31,7 @@ unfolding one_if
 one_at_most true = omega arith
 one_at_most false = omega arith
 
-above_falls : (rank : ℕ → ℕ) (k l : ℕ) (ds : List Drawn) → k ≤ l → above rank l ds ≤ above rank k ds
+above_falls : (rank : ℕ → ℕ) (k l : ℕ) (ds : List MarkedEdge) → k ≤ l → above rank l ds ≤ above rank k ds
 unfolding above
 above_falls rank k l [] h = omega arith
 above_falls rank k l (d ∷ ds) h =
@@ -39,7 +39,7 @@ above_falls rank k l (d ∷ ds) h =
     let b = above_falls rank k l ds h in
     omega (arith, a, b)
 
-above_at_most : (rank : ℕ → ℕ) (k : ℕ) (ds : List Drawn) → above rank k ds ≤ length ds
+above_at_most : (rank : ℕ → ℕ) (k : ℕ) (ds : List MarkedEdge) → above rank k ds ≤ length ds
 unfolding above
 above_at_most rank k [] = omega arith
 above_at_most rank k (d ∷ ds) =
@@ -48,7 +48,7 @@ above_at_most rank k (d ∷ ds) =
     omega (arith, a, b)
 
 -- a silent edge that can be done leads to a higher rank, above which fewer edges leave
-record Climbs (rank : ℕ → ℕ) (ds : List Drawn) (m next : Moment) : Type 0 where
+record Climbs (rank : ℕ → ℕ) (ds : List MarkedEdge) (m next : Moment) : Type 0 where
   higher : rank m.node < rank next.node
   fewer : above rank (rank next.node) ds < above rank (rank m.node) ds
 
@@ -64,7 +64,7 @@ from_test a b e = grind arith
 end_node : (i e : ℕ) (m next : Moment) → ◌≡◌ {A = Option (ℕ × Moment)} (Some (i, m)) (Some (e, next)) → m.node ≡ next.node
 end_node i e m next z = ap (λ (o : Option (ℕ × Moment)). option_map_or (λ p. p.1.node) o 0) z
 
-climbs : (rank : ℕ → ℕ) (slots : List Slot) (ds : List Drawn) (i : ℕ) (m : Moment) (e : ℕ) (next : Moment) → Rises rank ds → silent_from slots ds i m ≡ Some (e, next) → Climbs rank ds m next
+climbs : (rank : ℕ → ℕ) (slots : List Slot) (ds : List MarkedEdge) (i : ℕ) (m : Moment) (e : ℕ) (next : Moment) → Rises rank ds → silent_from slots ds i m ≡ Some (e, next) → Climbs rank ds m next
 unfolding above
 climbs rank slots [] i m e next r q = cc
 climbs rank slots (d ∷ ds) i m e next r q = go (silent_slots slots d m) refl (λ z. climbs rank slots ds (i + 1) m e next r.1 z) q
@@ -88,7 +88,7 @@ climbs rank slots (d ∷ ds) i m e next r q = go (silent_slots slots d m) refl (
         let b = above_falls rank (rank m.node) (rank next.node) ds (omega (arith, h)) in
         record { higher = h; fewer = omega (arith, a, b) }
 
-runs_out : (rank : ℕ → ℕ) (slots : List Slot) (ds : List Drawn) → Rises rank ds → (k : ℕ) (m : Moment) → above rank (rank m.node) ds ≤ k → silent_from slots ds 0 (settled_within k slots ds m).1 ≡ None
+runs_out : (rank : ℕ → ℕ) (slots : List Slot) (ds : List MarkedEdge) → Rises rank ds → (k : ℕ) (m : Moment) → above rank (rank m.node) ds ≤ k → silent_from slots ds 0 (settled_within k slots ds m).1 ≡ None
 runs_out rank slots ds r zero m h = go (silent_from slots ds 0 m) refl
   where
     go : (o : Option (ℕ × Moment)) → silent_from slots ds 0 m ≡ o → o ≡ None
@@ -103,5 +103,5 @@ runs_out rank slots ds r (suc k) m h = go (silent_from slots ds 0 m) refl (λ ne
 pub silent_edges_run_out : SilentEdgesRunOut
 silent_edges_run_out f m =
     let r = function_ranked f in
-    let ds = (draft_of f).drawn in
+    let ds = (flow_of f).edges in
     runs_out r.rank (graph_slots f) ds r.rises (length ds) m (above_at_most r.rank (r.rank m.node) ds)

@@ -9,31 +9,31 @@ use Rattle.gob_tree.specs.declared.expr.Expr.{Local, Global, Binary}
 use Rattle.gob_tree.specs.declared.stmt.Stmt as Stmt
 use Rattle.c_meaning.specs.declared.config.Choice.{Choice}
 use Rattle.c_meaning.specs.declared.config.Todo.TheVariants.{Stmt as Doing}
-use Rattle.c_meaning.specs.Graph.{Draft, Marked, draft_of, hoisted_expr, marked_of, slots_with, graph_slots}
+use Rattle.c_meaning.specs.Graph.{FlowGraph, MarkedProgram, flow_of, hoisted_expr, marked_of, slots_with, graph_slots}
 use Rattle.c_meaning.specs.GraphStep.{Label, Do, Enter, Leave, func_slots}
 use Rattle.c_meaning.specs.Walk.{Begun, begun_of, Moment, Settled, Walked, walk_of, graph_run, labels_by, after_start, after_silent, after_choices, after_choice, walk_on, settled_from, moment_along, moment_with_input, Stands}
 use Rattle.c_meaning.proofs.Begins.{begun_is}
 use Rattle.c_meaning.proofs.Evaluation.{steps, expressions, statements, layers, edges}
 use Rattle.c_meaning.specs.Samples.{at, int, returns, choice, left}
 use Rattle.c_meaning.specs.StepExamples.{first_choice, racing_main, racing_thread, racing, racing_choices, calling_main, calling, calling_choices}
-use Rattle.c_meaning.specs.GraphExamples.{joining, joining_draft, joining_unit}
-use Rattle.c_meaning.specs.WalkExamples.{racing_thread_draft, racing_main_draft, racing_with, racing_marked, racing_at, racing_first_moves, racing_walk, racing_thread_walk, joining_with, joining_at, joining_choices, joining_walk, called_draft, calling_draft, calling_with, calling_at, calling_frame, called_frame, calling_walk, joining_tree, joining_moment}
+use Rattle.c_meaning.specs.GraphExamples.{joining, joining_flow, joining_unit}
+use Rattle.c_meaning.specs.WalkExamples.{racing_thread_flow, racing_main_flow, racing_with, racing_marked, racing_at, racing_first_moves, racing_walk, racing_thread_walk, joining_with, joining_at, joining_choices, joining_walk, called_flow, calling_flow, calling_with, calling_at, calling_frame, called_frame, calling_walk, joining_tree, joining_moment}
 use Rattle.c_meaning.proofs.GraphExampleProofs.{and_with_input, call_in_expression, called_graph}
 
 -- ---- walks
 
 -- one choice more
-one_more : (m : Marked) (c : Choice) (cs : List Choice) (w w' : Walked) → after_choice m c w ≡ Some w' → after_choices m (c ∷ cs) w ≡ after_choices m cs w'
+one_more : (m : MarkedProgram) (c : Choice) (cs : List Choice) (w w' : Walked) → after_choice m c w ≡ Some w' → after_choices m (c ∷ cs) w ≡ after_choices m cs w'
 one_more m c cs w w' e = ap (option_and_then (after_choices m cs)) e
 
-thread_drawn : draft_of racing_thread ≡ racing_thread_draft
-thread_drawn = simp (expressions, statements, hoisted_expr)
+thread_flow : flow_of racing_thread ≡ racing_thread_flow
+thread_flow = simp (expressions, statements, hoisted_expr)
 
-main_drawn : draft_of racing_main ≡ racing_main_draft
-main_drawn = simp (expressions, statements, hoisted_expr)
+main_flow : flow_of racing_main ≡ racing_main_flow
+main_flow = simp (expressions, statements, hoisted_expr)
 
 racing_is : marked_of racing ≡ racing_marked
-racing_is = ap (λ (d : Draft). racing_with d (draft_of racing_main)) thread_drawn ∙ ap (λ (d : Draft). racing_with racing_thread_draft d) main_drawn
+racing_is = ap (λ (d : FlowGraph). racing_with d (flow_of racing_main)) thread_flow ∙ ap (λ (d : FlowGraph). racing_with racing_thread_flow d) main_flow
 
 -- the run after three choices, after the thread's write, after the second read, and in the end
 w3 : Walked
@@ -66,7 +66,7 @@ sixth = simp edges
 
 racing_run : graph_run (marked_of racing) racing_choices ≡ Some w6
 racing_run =
-    ap (λ (m : Marked). graph_run m racing_choices) racing_is
+    ap (λ (m : MarkedProgram). graph_run m racing_choices) racing_is
     ∙ three
     ∙ one_more racing_marked (choice 2 0) (choice 1 0 ∷ choice 1 0 ∷ []) w3 w4 fourth
     ∙ one_more racing_marked (choice 1 0) (choice 1 0 ∷ []) w4 w5 fifth
@@ -83,8 +83,8 @@ pub thread : walk_of racing racing_choices 2 ≡ racing_thread_walk
 unfolding labels_in w6
 thread = ap (labels_in 2) racing_run
 
-joining_marked : Marked
-joining_marked = joining_with joining_draft
+joining_marked : MarkedProgram
+joining_marked = joining_with joining_flow
 
 joining_is : marked_of joining_unit ≡ joining_marked
 unfolding joining_marked
@@ -108,7 +108,7 @@ at_node : ℕ → List ℤ → Moment
 at_node node slots = record { node = node; slots = slots }
 
 settled_at : Moment → Settled
-settled_at m = settled_from (func_slots joining_marked.program 0) joining_draft.drawn m
+settled_at m = settled_from (func_slots joining_marked.program 0) joining_flow.edges m
 
 walked_on : List ℕ → Walked → Option Walked
 walked_on edges w = walk_on joining_marked.program 1 (pos 0) (map Do edges) w
@@ -159,7 +159,7 @@ third = simp edges
 joining_run : graph_run (marked_of joining_unit) joining_choices ≡ Some j3
 unfolding joining_marked start
 joining_run =
-    ap (λ (m : Marked). graph_run m joining_choices) joining_is
+    ap (λ (m : MarkedProgram). graph_run m joining_choices) joining_is
     ∙ ap (option_and_then (after_choices joining_marked joining_choices)) begun
     ∙ one_more joining_marked (choice 1 0) (choice 1 0 ∷ choice 1 0 ∷ []) j0 j1 first
     ∙ one_more joining_marked (choice 1 0) (choice 1 0 ∷ []) j1 j2 second
@@ -169,12 +169,12 @@ pub over_silent_edges : walk_of joining_unit joining_choices 1 ≡ joining_walk
 unfolding labels_in j3
 over_silent_edges = ap (labels_in 1) joining_run
 
-calling_marked : Marked
-calling_marked = calling_with called_draft calling_draft
+calling_marked : MarkedProgram
+calling_marked = calling_with called_flow calling_flow
 
 calling_marked_is : marked_of calling ≡ calling_marked
 unfolding calling_marked
-calling_marked_is = ap (λ (d : Draft). calling_with d (draft_of calling_main)) called_graph ∙ ap (λ (d : Draft). calling_with called_draft d) call_in_expression
+calling_marked_is = ap (λ (d : FlowGraph). calling_with d (flow_of calling_main)) called_graph ∙ ap (λ (d : FlowGraph). calling_with called_flow d) call_in_expression
 
 c0 : Walked
 c0 = calling_at (calling_frame 2 (pos 0 ∷ pos 0 ∷ pos 0 ∷ []) None ∷ []) ((1, Do 0) ∷ [])
@@ -206,7 +206,7 @@ calling_ends = simp edges
 
 calling_run : graph_run (marked_of calling) calling_choices ≡ Some c3
 calling_run =
-    ap (λ (m : Marked). graph_run m calling_choices) calling_marked_is
+    ap (λ (m : MarkedProgram). graph_run m calling_choices) calling_marked_is
     ∙ calling_begun
     ∙ one_more calling_marked (choice 1 0) (choice 1 0 ∷ choice 1 0 ∷ []) c0 c1 calling_enters
     ∙ one_more calling_marked (choice 1 0) (choice 1 0 ∷ []) c1 c2 calling_leaves
@@ -237,22 +237,22 @@ body_settles : settled_at (at_node 2 (pos 0 ∷ pos 0 ∷ pos 0 ∷ pos 0 ∷ []
 unfolding int_wrap settled_at at_node joining_marked
 body_settles = simp edges
 
-along_by : Draft → Option Moment
-along_by d = moment_along (slots_with joining d) d.drawn (pos 5 ∷ []) (record { node = 2; slots = pos 0 ∷ pos 0 ∷ pos 0 ∷ pos 0 ∷ [] })
+along_by : FlowGraph → Option Moment
+along_by d = moment_along (slots_with joining d) d.edges (pos 5 ∷ []) (record { node = 2; slots = pos 0 ∷ pos 0 ∷ pos 0 ∷ pos 0 ∷ [] })
 
 with_five : Settled → Option Moment
-with_five s = option_and_then (moment_along (slots_with joining joining_draft) joining_draft.drawn []) (moment_with_input (slots_with joining joining_draft) joining_draft.drawn (pos 5) s.1)
+with_five s = option_and_then (moment_along (slots_with joining joining_flow) joining_flow.edges []) (moment_with_input (slots_with joining joining_flow) joining_flow.edges (pos 5) s.1)
 
-along_to_join : along_by joining_draft ≡ Some (at_node 6 (pos 0 ∷ pos 0 ∷ pos 1 ∷ pos 5 ∷ []))
+along_to_join : along_by joining_flow ≡ Some (at_node 6 (pos 0 ∷ pos 0 ∷ pos 1 ∷ pos 5 ∷ []))
 unfolding int_wrap along_by with_five settled_at at_node joining_marked
 along_to_join = ap with_five body_settles ∙ ap (λ (s : Settled). Some s.1) read_settles
 
-joining_along : moment_along (graph_slots joining) (draft_of joining).drawn (pos 5 ∷ []) (record { node = 2; slots = pos 0 ∷ pos 0 ∷ pos 0 ∷ pos 0 ∷ [] }) ≡ Some (at_node 6 (pos 0 ∷ pos 0 ∷ pos 1 ∷ pos 5 ∷ []))
+joining_along : moment_along (graph_slots joining) (flow_of joining).edges (pos 5 ∷ []) (record { node = 2; slots = pos 0 ∷ pos 0 ∷ pos 0 ∷ pos 0 ∷ [] }) ≡ Some (at_node 6 (pos 0 ∷ pos 0 ∷ pos 1 ∷ pos 5 ∷ []))
 unfolding along_by
 joining_along = ap along_by and_with_input ∙ along_to_join
 
 joining_room : 4 ≡ length (graph_slots joining)
-joining_room = ap (λ (d : Draft). length (slots_with joining d)) (sym and_with_input)
+joining_room = ap (λ (d : FlowGraph). length (slots_with joining d)) (sym and_with_input)
 
 pub joining_stands : Stands joining_unit joining_tree joining_moment
 unfolding at_node

@@ -1,6 +1,6 @@
 -- Configurations: what the threads share, and the frames of each thread. They are the same for
 -- trees and for graphs but for what a frame is.
-use Rattle.std.specs.Prelude.{ℕ, zero, suc, ◌+◌, ℤ, pos, List, [], ◌∷◌, ◌++◌, map, length, replicate, Option, None, slice_get, slice_index_or, slice_set}
+use Rattle.std.specs.Prelude.{ℕ, zero, suc, ◌+◌, ℤ, pos, List, [], ◌∷◌, ◌++◌, map, length, replicate, Option, None, Some, Bool, false, if◌then◌else◌, nat_eq, slice_get, slice_index_or, slice_set}
 use Rattle.std.specs.Option.{option_map_or}
 use Rattle.gob_tree.specs.declared.expr.Width.{Width}
 use Rattle.gob_tree.specs.declared.expr.Width.TheVariants.{W32}
@@ -47,6 +47,24 @@ next_thread c = length c.threads + 1
 -- the owner of a mutex
 abbrev pub owner_at : {F : Type 0} → Config F → ℕ → Option ℕ
 owner_at c m = slice_index_or c.owners m None
+
+-- the owner after a thread locked a mutex of this owner; none where it can't, since somebody holds it
+abbrev pub owner_after_lock : ℕ → Option ℕ → Option (Option ℕ)
+owner_after_lock t None = Some (Some t)
+owner_after_lock t (Some owner) = None
+
+-- the owner after a thread unlocked it; none where it can't, since it doesn't hold it
+abbrev pub owner_after_unlock : ℕ → Option ℕ → Option (Option ℕ)
+owner_after_unlock t None = None
+owner_after_unlock t (Some owner) = if nat_eq owner t then Some None else None
+
+-- whether there is such a thread and it has ended, where a thread has ended by its frames
+abbrev pub has_ended_by : {F : Type 0} → (List F → Bool) → Config F → ℕ → Bool
+has_ended_by is_over c t = option_map_or is_over (thread_at c.threads t) false
+
+-- the slots of a function by its number; none where there is no such function
+abbrev pub slots_in : {A : Type 0} → (A → List Slot) → List A → ℕ → List Slot
+slots_in slots funcs f = option_map_or slots (slice_get funcs f) []
 
 -- a global's value, and its width
 abbrev pub global_at : {F : Type 0} → Config F → ℕ → ℤ

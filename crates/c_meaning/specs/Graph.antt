@@ -11,7 +11,8 @@ use Rattle.std.specs.List.{list_any}
 use Rattle.std.specs.Option.{option_map_or}
 use Rattle.gob_tree.specs.declared.place.Place.{Place}
 use Rattle.gob_tree.specs.declared.expr.Width.{Width}
-use Rattle.gob_tree.specs.declared.expr.Width.TheVariants.{W32, W64}
+use Rattle.gob_tree.specs.declared.expr.Width.TheVariants.{W32}
+use Rattle.gob_tree.specs.Widths.{same_width}
 use Rattle.gob_tree.specs.declared.expr.BinOp.{BinOp}
 use Rattle.gob_tree.specs.declared.expr.BinOp.TheVariants.{And, Or, Ne}
 use Rattle.gob_tree.specs.declared.expr.Expr.{Expr, Number, Local, Unary, Binary, fold-Expr}
@@ -30,56 +31,50 @@ use Rattle.gob_tree.specs.declared.graph.Program.{Program}
 use Rattle.c_meaning.specs.Demand.{truth}
 use Rattle.c_meaning.specs.Tree.{one}
 
--- ---- drawing
+-- ---- the graph so far
 
 -- An edge, and whether it is silent: no step of the tree belongs to it.
-pub record Drawn : Type 0 where
+pub record MarkedEdge : Type 0 where
   pub edge : Edge
   pub silent : Bool
 
--- What is drawn so far: how many slots have names, the widths of the temporaries behind them, the
--- places of the nodes, and the edges.
-pub record Draft : Type 0 where
+-- A control-flow graph while it grows: how many slots have names, the widths of the temporaries
+-- behind them, the places of the nodes, and the edges.
+pub record FlowGraph : Type 0 where
   pub named : ℕ
   pub temps : List Width
   pub nodes : List Place
-  pub drawn : List Drawn
+  pub edges : List MarkedEdge
 
 -- the number that the next node takes
-abbrev pub next_node : Draft → ℕ
+abbrev pub next_node : FlowGraph → ℕ
 next_node d = length d.nodes
 
-abbrev pub with_node : Place → Draft → Draft
+abbrev pub with_node : Place → FlowGraph → FlowGraph
 with_node place d = record d { nodes = d.nodes ++ place ∷ [] }
 
-abbrev pub with_drawn : Bool → ℕ → Action → ℕ → Draft → Draft
-with_drawn silent from act to d =
-    record d { drawn = d.drawn ++ record { edge = record { from = from; act = act; to = to }; silent = silent } ∷ [] }
+abbrev pub with_marked : Bool → ℕ → Action → ℕ → FlowGraph → FlowGraph
+with_marked silent from act to d =
+    record d { edges = d.edges ++ record { edge = record { from = from; act = act; to = to }; silent = silent } ∷ [] }
 
-abbrev pub with_edge : ℕ → Action → ℕ → Draft → Draft
-with_edge = with_drawn false
+abbrev pub with_edge : ℕ → Action → ℕ → FlowGraph → FlowGraph
+with_edge = with_marked false
 
-abbrev pub with_silent : ℕ → Action → ℕ → Draft → Draft
-with_silent = with_drawn true
+abbrev pub with_silent : ℕ → Action → ℕ → FlowGraph → FlowGraph
+with_silent = with_marked true
 
 -- both ways out of a test
-abbrev pub with_guards : ℕ → Expr → ℕ → ℕ → Draft → Draft
+abbrev pub with_guards : ℕ → Expr → ℕ → ℕ → FlowGraph → FlowGraph
 with_guards from e yes_to no_to d = with_edge from (Guard e false) no_to (with_edge from (Guard e true) yes_to d)
 
 -- ---- temporaries
 
--- The state of the hoisting in one statement: the draft, the temporaries that the statement has
+-- The state of the hoisting in one statement: the graph so far, the temporaries that the statement has
 -- taken, and the node that has been reached.
-pub record Spot : Type 0 where
-  pub draft : Draft
+pub record HoistState : Type 0 where
+  pub flow : FlowGraph
   pub taken : List ℕ
   pub at : ℕ
-
-abbrev pub same_width : Width → Width → Bool
-same_width W32 W32 = true
-same_width W32 W64 = false
-same_width W64 W32 = false
-same_width W64 W64 = true
 
 -- the least temporary of a width from the k-th on that isn't taken
 abbrev pub free_from : ℕ → List Width → Width → List ℕ → Option ℕ
@@ -88,43 +83,43 @@ free_from k (v ∷ temps) w taken =
     if same_width v w && not (list_any (nat_eq k) taken) then Some k else free_from (k + 1) temps w taken
 
 -- takes the k-th temporary, which is there, or a new one after all others
-abbrev pub taking : Width → Option ℕ → Spot → Spot
+abbrev pub taking : Width → Option ℕ → HoistState → HoistState
 taking w (Some k) s = record s { taken = k ∷ s.taken }
-taking w None s = record s { draft = record s.draft { temps = s.draft.temps ++ w ∷ [] }; taken = length s.draft.temps ∷ s.taken }
+taking w None s = record s { flow = record s.flow { temps = s.flow.temps ++ w ∷ [] }; taken = length s.flow.temps ∷ s.taken }
 
-abbrev pub number_or_next : Option ℕ → Spot → ℕ
+abbrev pub number_or_next : Option ℕ → HoistState → ℕ
 number_or_next (Some k) s = k
-number_or_next None s = length s.draft.temps
+number_or_next None s = length s.flow.temps
 
-abbrev pub free_temp : Width → Spot → Option ℕ
-free_temp w s = free_from 0 s.draft.temps w s.taken
+abbrev pub free_temp : Width → HoistState → Option ℕ
+free_temp w s = free_from 0 s.flow.temps w s.taken
 
 -- the slot of the next temporary of a width, and the state after it is taken
-abbrev pub temp_slot : Width → Spot → ℕ
-temp_slot w s = s.draft.named + number_or_next (free_temp w s) s
+abbrev pub temp_slot : Width → HoistState → ℕ
+temp_slot w s = s.flow.named + number_or_next (free_temp w s) s
 
-abbrev pub with_temp : Width → Spot → Spot
+abbrev pub with_temp : Width → HoistState → HoistState
 with_temp w s = taking w (free_temp w s) s
 
 -- ---- hoisting
 
 -- an expression without inputs, and where it can be evaluated
 abbrev pub Hoisted : Type 0 → Type 0
-Hoisted A = A × Spot
+Hoisted A = A × HoistState
 
 -- gets an input into the temporary t by an edge to a new node
-abbrev pub fetch_into : ℕ → Place → Action → Spot → Hoisted Expr
+abbrev pub fetch_into : ℕ → Place → Action → HoistState → Hoisted Expr
 fetch_into t place act s =
-    let node = next_node s.draft in
-    (Local t, record s { draft = with_edge s.at act node (with_node place s.draft); at = node })
+    let node = next_node s.flow in
+    (Local t, record s { flow = with_edge s.at act node (with_node place s.flow); at = node })
 
-abbrev pub fetch : Place → Width → (ℕ → Action) → Spot → Hoisted Expr
+abbrev pub fetch : Place → Width → (ℕ → Action) → HoistState → Hoisted Expr
 fetch place w act s = fetch_into (temp_slot w s) place (act (temp_slot w s)) (with_temp w s)
 
 -- whether an expression has an input, and how it is hoisted in a statement at a place
 pub record Hoisting : Type 0 where
   pub inputs : Bool
-  pub hoist : Place → Spot → Hoisted Expr
+  pub hoist : Place → HoistState → Hoisted Expr
 
 -- the truth of the left operand at which `&&` and `||` stop
 abbrev pub stop_of : BinOp → Option Bool
@@ -140,20 +135,20 @@ node_of b p q = if b then p else q
 -- are silent.
 abbrev pub right_join : ℕ → ℕ → Hoisted Expr → Hoisted Expr
 right_join t j r =
-    (Local t, record r.1 { draft = with_silent r.1.at (Assign t (Binary Ne r.0 (Number (pos 0) W32))) j r.1.draft; at = j })
+    (Local t, record r.1 { flow = with_silent r.1.at (Assign t (Binary Ne r.0 (Number (pos 0) W32))) j r.1.flow; at = j })
 
-abbrev pub logic_at : Bool → Hoisting → Place → ℕ → ℕ → Expr → Spot → Hoisted Expr
+abbrev pub logic_at : Bool → Hoisting → Place → ℕ → ℕ → Expr → HoistState → Hoisted Expr
 logic_at stop right place t p l s =
     let q = p + 1 in
     let j = p + 2 in
-    let nodes = with_node place (with_node place (with_node place s.draft)) in
+    let nodes = with_node place (with_node place (with_node place s.flow)) in
     let guards = with_silent s.at (Guard l false) q (with_silent s.at (Guard l true) p nodes) in
     let decided = with_silent (node_of stop p q) (Assign t (Number (truth stop) W32)) j guards in
-    right_join t j (right.hoist place (record s { draft = decided; at = node_of stop q p }))
+    right_join t j (right.hoist place (record s { flow = decided; at = node_of stop q p }))
 
 abbrev pub logic_join : Bool → Hoisting → Place → Hoisted Expr → Hoisted Expr
 logic_join stop right place l =
-    logic_at stop right place (temp_slot W32 l.1) (next_node l.1.draft) l.0 (with_temp W32 l.1)
+    logic_at stop right place (temp_slot W32 l.1) (next_node l.1.flow) l.0 (with_temp W32 l.1)
 
 -- both operands from left to right
 abbrev pub strict_right : BinOp → Expr → Hoisted Expr → Hoisted Expr
@@ -172,7 +167,7 @@ binary_join op (Some stop) right place l =
 abbrev pub before : Expr → Hoisted (List Expr) → Hoisted (List Expr)
 before e es = (e ∷ es.0, es.1)
 
-abbrev pub hoist_all : List Hoisting → Place → Spot → Hoisted (List Expr)
+abbrev pub hoist_all : List Hoisting → Place → HoistState → Hoisted (List Expr)
 hoist_all [] place s = ([], s)
 hoist_all (e ∷ es) place s =
     let first = e.hoist place s in
@@ -193,7 +188,7 @@ inputs_step (Expr-F.Unary op a) = a.inputs
 inputs_step (Expr-F.Binary op a b) = a.inputs || b.inputs
 inputs_step (Expr-F.Call f w args) = true
 
-abbrev pub hoist_step : Expr-F Hoisting → Place → Spot → Hoisted Expr
+abbrev pub hoist_step : Expr-F Hoisting → Place → HoistState → Hoisted Expr
 hoist_step (Expr-F.Number n w) place s = (Number n w, s)
 hoist_step (Expr-F.Local x) place s = (Local x, s)
 hoist_step (Expr-F.Global g w) place s = fetch place w (λ t. Read t g) s
@@ -209,13 +204,13 @@ abbrev pub hoisting_of : Expr → Hoisting
 hoisting_of = fold-Expr Hoisting hoisting_step
 
 -- the hoisting of a statement's expressions begins at a node with no temporary taken
-abbrev pub begun_at : ℕ → Draft → Spot
-begun_at node d = record { draft = d; taken = []; at = node }
+abbrev pub begun_at : ℕ → FlowGraph → HoistState
+begun_at node d = record { flow = d; taken = []; at = node }
 
-abbrev pub hoisted_expr : Expr → Place → ℕ → Draft → Hoisted Expr
+abbrev pub hoisted_expr : Expr → Place → ℕ → FlowGraph → Hoisted Expr
 hoisted_expr e place node d = (hoisting_of e).hoist place (begun_at node d)
 
-abbrev pub hoisted_exprs : List Expr → Place → ℕ → Draft → Hoisted (List Expr)
+abbrev pub hoisted_exprs : List Expr → Place → ℕ → FlowGraph → Hoisted (List Expr)
 hoisted_exprs es place node d = hoist_all (map hoisting_of es) place (begun_at node d)
 
 -- ---- statements
@@ -227,85 +222,115 @@ pub record Route : Type 0 where
   pub on_break : ℕ
   pub on_continue : ℕ
 
+-- in a list of statements one ends in the node where the next one begins
+abbrev pub route_to : ℕ → Route → Route
+route_to node r = record r { to = node }
+
+abbrev pub route_from : ℕ → Route → Route
+route_from node r = record r { from = node }
+
+-- the parts of an `if` begin at the nodes after those of its condition
+abbrev pub then_route : Route → Hoisted Expr → Route
+then_route r e = route_from (next_node e.1.flow) r
+
+abbrev pub else_route : Route → Hoisted Expr → Route
+else_route r e = route_from (next_node e.1.flow + 1) r
+
+-- a part of a loop that leads to `to`: it ends where `continue` goes
+abbrev pub loop_route : ℕ → ℕ → ℕ → Route
+loop_route from end to = record { from = from; to = end; on_break = to; on_continue = end }
+
+-- the body of a `while` begins behind the condition and ends where the `while` begins
+abbrev pub while_route : Route → Hoisted Expr → Route
+while_route r e = loop_route (next_node e.1.flow) r.from r.to
+
+-- the body of a `do` begins where the `do` does and ends at the node of the test
+abbrev pub do_route : Route → ℕ → Route
+do_route r test = loop_route r.from test r.to
+
+-- the first part of a `for` ends at the node of the test; the body begins behind the condition and
+-- ends at the node of the last part, which ends at the node of the test
+abbrev pub first_route : Route → ℕ → Route
+first_route r test = loop_route r.from test r.to
+
+abbrev pub last_node : Hoisted Expr → ℕ
+last_node e = next_node e.1.flow + 1
+
+abbrev pub for_route : Route → Hoisted Expr → Route
+for_route r e = loop_route (next_node e.1.flow) (last_node e) r.to
+
+abbrev pub last_route : Route → ℕ → Hoisted Expr → Route
+last_route r test e = loop_route (last_node e) test r.to
+
 -- the place of the innermost statement that starts where this one starts, and how this one is
 -- lowered along a route
 pub record Lowering : Type 0 where
   pub start : Place
-  pub lower : Route → Draft → Draft
+  pub lower : Route → FlowGraph → FlowGraph
 
 -- the last edge, with what was hoisted
-abbrev pub last_edge : (Expr → Action) → ℕ → Hoisted Expr → Draft
-last_edge act to e = with_edge e.1.at (act e.0) to e.1.draft
+abbrev pub last_edge : (Expr → Action) → ℕ → Hoisted Expr → FlowGraph
+last_edge act to e = with_edge e.1.at (act e.0) to e.1.flow
 
-abbrev pub call_edge : ℕ → ℕ → Hoisted (List Expr) → Draft
-call_edge f to args = with_edge args.1.at (Call None f args.0) to args.1.draft
+abbrev pub call_edge : ℕ → ℕ → Hoisted (List Expr) → FlowGraph
+call_edge f to args = with_edge args.1.at (Call None f args.0) to args.1.flow
 
 -- a list of statements: a new node for each but the first, where it starts; an empty one is a Skip
-abbrev pub sequence : List Lowering → Route → Draft → Draft
+abbrev pub sequence : List Lowering → Route → FlowGraph → FlowGraph
 sequence [] r d = with_edge r.from Skip r.to d
 sequence (s ∷ []) r d = s.lower r d
 sequence (s ∷ s' ∷ ss) r d =
     let node = next_node d in
-    sequence (s' ∷ ss) (record r { from = node }) (s.lower (record r { to = node }) (with_node s'.start d))
+    sequence (s' ∷ ss) (route_from node r) (s.lower (route_to node r) (with_node s'.start d))
 
 -- a part that may be missing, which is a silent Skip then
-abbrev pub sequence_or_silent : List Lowering → Route → Draft → Draft
+abbrev pub sequence_or_silent : List Lowering → Route → FlowGraph → FlowGraph
 sequence_or_silent [] r d = with_silent r.from Skip r.to d
 sequence_or_silent (s ∷ ss) r d = sequence (s ∷ ss) r d
 
-abbrev pub part_or_silent : Option Lowering → Route → Draft → Draft
+abbrev pub part_or_silent : Option Lowering → Route → FlowGraph → FlowGraph
 part_or_silent None r d = with_silent r.from Skip r.to d
 part_or_silent (Some s) r d = s.lower r d
 
 -- `if`: the guards stand, to the first part's node and the second part's, if it has one
-abbrev pub if_head : Place → Option Place → ℕ → Hoisted Expr → Draft
+abbrev pub if_head : Place → Option Place → ℕ → Hoisted Expr → FlowGraph
 if_head yes_start None to e =
-    let yes_node = next_node e.1.draft in
-    with_guards e.1.at e.0 yes_node to (with_node yes_start e.1.draft)
+    let yes_node = next_node e.1.flow in
+    with_guards e.1.at e.0 yes_node to (with_node yes_start e.1.flow)
 if_head yes_start (Some no_start) to e =
-    let yes_node = next_node e.1.draft in
-    with_guards e.1.at e.0 yes_node (yes_node + 1) (with_node no_start (with_node yes_start e.1.draft))
+    let yes_node = next_node e.1.flow in
+    with_guards e.1.at e.0 yes_node (yes_node + 1) (with_node no_start (with_node yes_start e.1.flow))
 
-abbrev pub if_draft : Lowering → Option Lowering → Route → Hoisted Expr → Draft
-if_draft a None r e = a.lower (record r { from = next_node e.1.draft }) (if_head a.start None r.to e)
-if_draft a (Some b) r e =
-    b.lower (record r { from = next_node e.1.draft + 1 })
-    (a.lower (record r { from = next_node e.1.draft }) (if_head a.start (Some b.start) r.to e))
+abbrev pub if_flow : Lowering → Option Lowering → Route → Hoisted Expr → FlowGraph
+if_flow a None r e = a.lower (then_route r e) (if_head a.start None r.to e)
+if_flow a (Some b) r e = b.lower (else_route r e) (a.lower (then_route r e) (if_head a.start (Some b.start) r.to e))
 
 -- `while`: the guards stand, to the body's node and to the end
-abbrev pub while_head : Place → ℕ → Hoisted Expr → Draft
-while_head start to e = with_guards e.1.at e.0 (next_node e.1.draft) to (with_node start e.1.draft)
+abbrev pub while_head : Place → ℕ → Hoisted Expr → FlowGraph
+while_head start to e = with_guards e.1.at e.0 (next_node e.1.flow) to (with_node start e.1.flow)
 
--- the route of a loop's body, which ends where `continue` goes
-abbrev pub body_route : ℕ → ℕ → ℕ → Route
-body_route from end to = record { from = from; to = end; on_break = to; on_continue = end }
-
-abbrev pub while_draft : Lowering → Route → Hoisted Expr → Draft
-while_draft body r e = body.lower (body_route (next_node e.1.draft) r.from r.to) (while_head body.start r.to e)
+abbrev pub while_flow : Lowering → Route → Hoisted Expr → FlowGraph
+while_flow body r e = body.lower (while_route r e) (while_head body.start r.to e)
 
 -- `do`: the body stands, to the node of the test
-abbrev pub do_draft : Lowering → Expr → Place → Route → Draft → Draft
-do_draft body e place r d =
+abbrev pub do_flow : Lowering → Expr → Place → Route → FlowGraph → FlowGraph
+do_flow body e place r d =
     let test = next_node d in
-    let test_at = hoisted_expr e place test (body.lower (body_route r.from test r.to) (with_node place d)) in
-    with_guards test_at.1.at test_at.0 r.from r.to test_at.1.draft
+    let test_at = hoisted_expr e place test (body.lower (do_route r test) (with_node place d)) in
+    with_guards test_at.1.at test_at.0 r.from r.to test_at.1.flow
 
 -- `for`: the first part stands, to the node of the test
-abbrev pub for_first : List Lowering → Place → Route → Draft → Draft
-for_first first place r d = sequence_or_silent first (record r { to = next_node d }) (with_node place d)
+abbrev pub for_first : List Lowering → Place → Route → FlowGraph → FlowGraph
+for_first first place r d = sequence_or_silent first (first_route r (next_node d)) (with_node place d)
 
 -- the guards stand, to the body's node and to the end, and the last part has its node
-abbrev pub for_head : Place → Place → ℕ → Hoisted Expr → Draft
+abbrev pub for_head : Place → Place → ℕ → Hoisted Expr → FlowGraph
 for_head body_start last_start to e =
-    with_guards e.1.at e.0 (next_node e.1.draft) to (with_node last_start (with_node body_start e.1.draft))
+    with_guards e.1.at e.0 (next_node e.1.flow) to (with_node last_start (with_node body_start e.1.flow))
 
-abbrev pub for_draft : Option Lowering → Lowering → Place → ℕ → Route → Hoisted Expr → Draft
-for_draft last body place test r e =
-    let body_node = next_node e.1.draft in
-    let last_node = body_node + 1 in
-    part_or_silent last (record r { from = last_node; to = test })
-    (body.lower (body_route body_node last_node r.to)
-    (for_head body.start (option_map_or (λ s. s.start) last place) r.to e))
+abbrev pub for_flow : Option Lowering → Lowering → Place → ℕ → Route → Hoisted Expr → FlowGraph
+for_flow last body place test r e =
+    part_or_silent last (last_route r test e) (body.lower (for_route r e) (for_head body.start (option_map_or (λ s. s.start) last place) r.to e))
 
 -- a missing condition is 1
 abbrev pub condition : Option Expr → Expr
@@ -320,18 +345,18 @@ start_step (Stmt-F.DoWhile body e) place = body.start
 start_step (Stmt-F.For (s ∷ ss) test last body) place = s.start
 start_step other place = place
 
-abbrev pub lower_step : Stmt-F (Place → Lowering) Lowering → Place → Route → Draft → Draft
+abbrev pub lower_step : Stmt-F (Place → Lowering) Lowering → Place → Route → FlowGraph → FlowGraph
 lower_step (Stmt-F.Declare x None) place r d = with_edge r.from (Nondet x) r.to d
 lower_step (Stmt-F.Declare x (Some e)) place r d = last_edge (Assign x) r.to (hoisted_expr e place r.from d)
 lower_step (Stmt-F.DeclareThread var) place r d = with_edge r.from Skip r.to d
 lower_step (Stmt-F.Assign (Target.Local x) e) place r d = last_edge (Assign x) r.to (hoisted_expr e place r.from d)
 lower_step (Stmt-F.Assign (Target.Global g) e) place r d = last_edge (Write g) r.to (hoisted_expr e place r.from d)
 lower_step (Stmt-F.CallOnly f args) place r d = call_edge f r.to (hoisted_exprs args place r.from d)
-lower_step (Stmt-F.If e a b) place r d = if_draft a b r (hoisted_expr e place r.from d)
-lower_step (Stmt-F.While e body) place r d = while_draft body r (hoisted_expr e place r.from d)
-lower_step (Stmt-F.DoWhile body e) place r d = do_draft body e place r d
+lower_step (Stmt-F.If e a b) place r d = if_flow a b r (hoisted_expr e place r.from d)
+lower_step (Stmt-F.While e body) place r d = while_flow body r (hoisted_expr e place r.from d)
+lower_step (Stmt-F.DoWhile body e) place r d = do_flow body e place r d
 lower_step (Stmt-F.For first test last body) place r d =
-    for_draft last body place (next_node d) r (hoisted_expr (condition test) place (next_node d) (for_first first place r d))
+    for_flow last body place (next_node d) r (hoisted_expr (condition test) place (next_node d) (for_first first place r d))
 lower_step (Stmt-F.Block all) place r d = sequence all r d
 lower_step Stmt-F.Break place r d = with_edge r.from Skip r.on_break d
 lower_step Stmt-F.Continue place r d = with_edge r.from Skip r.on_continue d
@@ -361,31 +386,31 @@ body_start [] end = end
 body_start (s ∷ ss) end = s.start
 
 -- the entry, the exit and the body's start, and the silent edge from the entry to the body
-abbrev pub first_draft : Function → Draft
-first_draft f = record {
+abbrev pub first_flow : Function → FlowGraph
+first_flow f = record {
   named = length f.slots;
   temps = [];
   nodes = f.place ∷ f.end ∷ body_start (map lowering_of f.body) f.end ∷ [];
-  drawn = record { edge = record { from = 0; act = Skip; to = 2 }; silent = true } ∷ [];
+  edges = record { edge = record { from = 0; act = Skip; to = 2 }; silent = true } ∷ [];
 }
 
 -- the body's route: from node 2 to the exit
-abbrev pub first_route : Route
-first_route = record { from = 2; to = 1; on_break = 1; on_continue = 1 }
+abbrev pub body_route : Route
+body_route = record { from = 2; to = 1; on_break = 1; on_continue = 1 }
 
--- all that is drawn of a function
-abbrev pub draft_of : Function → Draft
-draft_of f = sequence (map lowering_of f.body) first_route (first_draft f)
+-- the whole graph of a function, with the marks of its silent edges
+abbrev pub flow_of : Function → FlowGraph
+flow_of f = sequence (map lowering_of f.body) body_route (first_flow f)
 
 -- a temporary's name is empty
 abbrev pub temporary : Width → Slot
 temporary w = record { name = []; width = w }
 
-abbrev pub slots_with : Function → Draft → List Slot
+abbrev pub slots_with : Function → FlowGraph → List Slot
 slots_with f d = f.slots ++ map temporary d.temps
 
--- a function's graph by what is drawn of it
-abbrev pub graph_with : Function → Draft → FuncGraph
+-- a function's graph without the marks
+abbrev pub graph_with : Function → FlowGraph → FuncGraph
 graph_with f d = record {
   name = f.name;
   kind = f.kind;
@@ -393,24 +418,24 @@ graph_with f d = record {
   slots = slots_with f d;
   threads = f.threads;
   nodes = d.nodes;
-  edges = map (λ drawn. drawn.edge) d.drawn;
+  edges = map (λ marked. marked.edge) d.edges;
 }
 
 -- the slots of a function's graph, and the graph
 abbrev pub graph_slots : Function → List Slot
-graph_slots f = slots_with f (draft_of f)
+graph_slots f = slots_with f (flow_of f)
 
 abbrev pub graph_of : Function → FuncGraph
-graph_of f = graph_with f (draft_of f)
+graph_of f = graph_with f (flow_of f)
 
 -- a unit's program: the graph of each function
 abbrev pub program_of : TranslationUnit → Program
 program_of unit = record { funcs = map graph_of unit.funcs; globals = unit.globals; mutexes = unit.mutexes; main = unit.main }
 
 -- a program, and of each function its edges with the marks of the silent ones
-pub record Marked : Type 0 where
+pub record MarkedProgram : Type 0 where
   pub program : Program
-  pub drawn : List (List Drawn)
+  pub edges : List (List MarkedEdge)
 
-abbrev pub marked_of : TranslationUnit → Marked
-marked_of unit = record { program = program_of unit; drawn = map (λ f. (draft_of f).drawn) unit.funcs }
+abbrev pub marked_of : TranslationUnit → MarkedProgram
+marked_of unit = record { program = program_of unit; edges = map (λ f. (flow_of f).edges) unit.funcs }

@@ -11,18 +11,18 @@ use Rattle.gob_tree.specs.declared.unit.Unit.{Unit as TranslationUnit}
 use Rattle.gob_tree.specs.declared.graph.Action.{Action}
 use Rattle.gob_tree.specs.declared.graph.Action.TheVariants.{Assign, Read, Guard, Skip}
 use Rattle.gob_tree.specs.declared.graph.Edge.{Edge}
-use Rattle.c_meaning.specs.Graph.{Drawn, Draft}
+use Rattle.c_meaning.specs.Graph.{MarkedEdge, FlowGraph}
 use Rattle.c_meaning.specs.Samples.{place, at, int, int_slot, global, int_func, returns, alone}
 
 abbrev pub edge : ℕ → Action → ℕ → Edge
 edge from act to = record { from = from; act = act; to = to }
 
 -- a silent edge, and one that isn't
-abbrev pub quiet : ℕ → Action → ℕ → Drawn
-quiet from act to = record { edge = edge from act to; silent = true }
+abbrev pub silent_edge : ℕ → Action → ℕ → MarkedEdge
+silent_edge from act to = record { edge = edge from act to; silent = true }
 
-abbrev pub loud : ℕ → Action → ℕ → Drawn
-loud from act to = record { edge = edge from act to; silent = false }
+abbrev pub visible_edge : ℕ → Action → ℕ → MarkedEdge
+visible_edge from act to = record { edge = edge from act to; silent = false }
 
 -- ---- graphs
 
@@ -34,18 +34,18 @@ counting = int_func (int_slot ∷ int_slot ∷ []) []
     ∷ at 4 3 (Stmt.Return (Some (Local 1)))
     ∷ [])
 
-abbrev pub counting_draft : Draft
-counting_draft = record {
+abbrev pub counting_flow : FlowGraph
+counting_flow = record {
   named = 2;
   temps = [];
   nodes = place 1 5 ∷ place 9 1 ∷ place 2 3 ∷ place 3 3 ∷ place 4 3 ∷ place 3 18 ∷ [];
-  drawn =
-      quiet 0 Skip 2
-      ∷ loud 2 (Assign 1 (int 0)) 3
-      ∷ loud 3 (Guard (Binary Lt (Local 1) (int 10)) true) 5
-      ∷ loud 3 (Guard (Binary Lt (Local 1) (int 10)) false) 4
-      ∷ loud 5 (Assign 1 (Binary Add (Local 1) (int 1))) 3
-      ∷ loud 4 (Assign 0 (Local 1)) 1
+  edges =
+      silent_edge 0 Skip 2
+      ∷ visible_edge 2 (Assign 1 (int 0)) 3
+      ∷ visible_edge 3 (Guard (Binary Lt (Local 1) (int 10)) true) 5
+      ∷ visible_edge 3 (Guard (Binary Lt (Local 1) (int 10)) false) 4
+      ∷ visible_edge 5 (Assign 1 (Binary Add (Local 1) (int 1))) 3
+      ∷ visible_edge 4 (Assign 0 (Local 1)) 1
       ∷ [];
 }
 
@@ -54,17 +54,17 @@ abbrev pub doubling : Function
 doubling = int_func (int_slot ∷ int_slot ∷ []) []
     (at 2 3 (Stmt.Declare 1 (Some (Binary Add (Global 0 W32) (Global 0 W32)))) ∷ returns (Local 1) ∷ [])
 
-abbrev pub doubling_draft : Draft
-doubling_draft = record {
+abbrev pub doubling_flow : FlowGraph
+doubling_flow = record {
   named = 2;
   temps = W32 ∷ W32 ∷ [];
   nodes = place 1 5 ∷ place 9 1 ∷ place 2 3 ∷ place 8 3 ∷ place 2 3 ∷ place 2 3 ∷ [];
-  drawn =
-      quiet 0 Skip 2
-      ∷ loud 2 (Read 2 0) 4
-      ∷ loud 4 (Read 3 0) 5
-      ∷ loud 5 (Assign 1 (Binary Add (Local 2) (Local 3))) 3
-      ∷ loud 3 (Assign 0 (Local 1)) 1
+  edges =
+      silent_edge 0 Skip 2
+      ∷ visible_edge 2 (Read 2 0) 4
+      ∷ visible_edge 4 (Read 3 0) 5
+      ∷ visible_edge 5 (Assign 1 (Binary Add (Local 2) (Local 3))) 3
+      ∷ visible_edge 3 (Assign 0 (Local 1)) 1
       ∷ [];
 }
 
@@ -73,20 +73,20 @@ abbrev pub joining : Function
 joining = int_func (int_slot ∷ int_slot ∷ []) []
     (at 2 3 (Stmt.Declare 1 (Some (Binary And (int 1) (Global 0 W32)))) ∷ returns (Local 1) ∷ [])
 
-abbrev pub joining_draft : Draft
-joining_draft = record {
+abbrev pub joining_flow : FlowGraph
+joining_flow = record {
   named = 2;
   temps = W32 ∷ W32 ∷ [];
   nodes = place 1 5 ∷ place 9 1 ∷ place 2 3 ∷ place 8 3 ∷ place 2 3 ∷ place 2 3 ∷ place 2 3 ∷ place 2 3 ∷ [];
-  drawn =
-      quiet 0 Skip 2
-      ∷ quiet 2 (Guard (int 1) true) 4
-      ∷ quiet 2 (Guard (int 1) false) 5
-      ∷ quiet 5 (Assign 2 (int 0)) 6
-      ∷ loud 4 (Read 3 0) 7
-      ∷ quiet 7 (Assign 2 (Binary Ne (Local 3) (int 0))) 6
-      ∷ loud 6 (Assign 1 (Local 2)) 3
-      ∷ loud 3 (Assign 0 (Local 1)) 1
+  edges =
+      silent_edge 0 Skip 2
+      ∷ silent_edge 2 (Guard (int 1) true) 4
+      ∷ silent_edge 2 (Guard (int 1) false) 5
+      ∷ silent_edge 5 (Assign 2 (int 0)) 6
+      ∷ visible_edge 4 (Read 3 0) 7
+      ∷ silent_edge 7 (Assign 2 (Binary Ne (Local 3) (int 0))) 6
+      ∷ visible_edge 6 (Assign 1 (Local 2)) 3
+      ∷ visible_edge 3 (Assign 0 (Local 1)) 1
       ∷ [];
 }
 
@@ -101,21 +101,21 @@ looping = int_func (int_slot ∷ []) []
     ∷ returns (int 0)
     ∷ [])
 
-abbrev pub looping_draft : Draft
-looping_draft = record {
+abbrev pub looping_flow : FlowGraph
+looping_flow = record {
   named = 1;
   temps = [];
   nodes = place 1 5 ∷ place 9 1 ∷ place 2 3 ∷ place 3 6 ∷ place 2 3 ∷ place 2 14 ∷ place 2 3 ∷ place 8 3 ∷ place 3 3 ∷ [];
-  drawn =
-      quiet 0 Skip 2
-      ∷ quiet 2 Skip 4
-      ∷ loud 4 (Guard (int 1) true) 5
-      ∷ loud 4 (Guard (int 1) false) 3
-      ∷ loud 5 Skip 6
-      ∷ quiet 6 Skip 4
-      ∷ loud 3 Skip 8
-      ∷ loud 8 (Guard (int 0) true) 3
-      ∷ loud 8 (Guard (int 0) false) 7
-      ∷ loud 7 (Assign 0 (int 0)) 1
+  edges =
+      silent_edge 0 Skip 2
+      ∷ silent_edge 2 Skip 4
+      ∷ visible_edge 4 (Guard (int 1) true) 5
+      ∷ visible_edge 4 (Guard (int 1) false) 3
+      ∷ visible_edge 5 Skip 6
+      ∷ silent_edge 6 Skip 4
+      ∷ visible_edge 3 Skip 8
+      ∷ visible_edge 8 (Guard (int 0) true) 3
+      ∷ visible_edge 8 (Guard (int 0) false) 7
+      ∷ visible_edge 7 (Assign 0 (int 0)) 1
       ∷ [];
 }

@@ -12,7 +12,7 @@ use Rattle.gob_tree.specs.declared.graph.FuncGraph.{FuncGraph}
 use Rattle.gob_tree.specs.declared.graph.Program.{Program}
 use Rattle.c_meaning.specs.declared.demand.Demand.{Demand}
 use Rattle.c_meaning.specs.Demand.{conversion, value_at, with_slot, is_zero, value_of, values_of}
-use Rattle.c_meaning.specs.Config.{Config, thread_at, Effect, Keeps, SetsGlobal, SetsOwner, Starts, after_effect, next_thread, owner_at, global_at, global_width, first_values, unset_vars, first_config}
+use Rattle.c_meaning.specs.Config.{Config, thread_at, Effect, Keeps, SetsGlobal, SetsOwner, Starts, after_effect, next_thread, owner_at, owner_after_lock, owner_after_unlock, has_ended_by, slots_in, global_at, global_width, first_values, unset_vars, first_config}
 
 -- The function, the node, the values of all slots, the thread that each thread variable has, if
 -- any, and the number of the call edge that the frame waits at, if it does.
@@ -24,7 +24,7 @@ pub record Frame : Type 0 where
   pub waits : Option ℕ
 
 abbrev pub func_slots : Program → ℕ → List Slot
-func_slots program f = option_map_or (λ func. func.slots) (slice_get program.funcs f) []
+func_slots program = slots_in (λ func. func.slots) program.funcs
 
 -- an edge of a function by its number
 abbrev pub edge_at : Program → ℕ → ℕ → Option Edge
@@ -54,7 +54,7 @@ is_over (frame ∷ []) = nat_eq frame.node 1
 is_over (frame ∷ caller ∷ below) = is_over (caller ∷ below)
 
 abbrev pub has_ended : Config Frame → ℕ → Bool
-has_ended c t = option_map_or is_over (thread_at c.threads t) false
+has_ended = has_ended_by is_over
 
 -- ---- actions
 
@@ -93,13 +93,8 @@ Acted = Frame × Effect Frame
 abbrev pub slots_effect : Site → List ℤ → Acted
 slots_effect s slots = (record s.frame { slots = slots }, Keeps)
 
-abbrev pub lock_effect : Site → ℕ → Option ℕ → Option Acted
-lock_effect s m None = Some (s.frame, SetsOwner m (Some s.thread))
-lock_effect s m (Some owner) = None
-
-abbrev pub unlock_effect : Site → ℕ → Option ℕ → Option Acted
-unlock_effect s m None = None
-unlock_effect s m (Some owner) = if nat_eq owner s.thread then Some (s.frame, SetsOwner m None) else None
+abbrev pub owner_effect : Site → ℕ → Option (Option ℕ) → Option Acted
+owner_effect s m owner = option_map (λ new. (s.frame, SetsOwner m new)) owner
 
 abbrev pub join_effect : Site → Option ℕ → Option Acted
 join_effect s None = None
@@ -111,8 +106,8 @@ action_effect s slots (Read x g) = Some (slots_effect s (with_slot slots x (glob
 action_effect s slots (Write g e) =
     with_value (value_of e slots s.frame.slots) (λ n. Some (s.frame, SetsGlobal g (conversion (global_width s.program.globals g) n)))
 action_effect s slots (Nondet x) = Some (slots_effect s (with_slot slots x s.input s.frame.slots))
-action_effect s slots (Lock m) = lock_effect s m (owner_at s.config m)
-action_effect s slots (Unlock m) = unlock_effect s m (owner_at s.config m)
+action_effect s slots (Lock m) = owner_effect s m (owner_after_lock s.thread (owner_at s.config m))
+action_effect s slots (Unlock m) = owner_effect s m (owner_after_unlock s.thread (owner_at s.config m))
 action_effect s slots (Create var f) =
     Some (record s.frame { vars = slice_set s.frame.vars var (Some (next_thread s.config)) }, Starts (new_frame s.program f []))
 action_effect s slots (Join var) = join_effect s (slice_index_or s.frame.vars var None)

@@ -13,7 +13,7 @@ use Rattle.c_meaning.specs.Demand.{demand_of}
 use Rattle.c_meaning.specs.Config.{Config, with_thread}
 use Rattle.c_meaning.specs.Tree.{Frame, MovesTo, tree_step, word_of, after_step}
 use Rattle.c_meaning.specs.Run.{IsRun}
-use Rattle.c_meaning.specs.Graph.{Drawn, draft_of, graph_slots}
+use Rattle.c_meaning.specs.Graph.{MarkedEdge, flow_of, graph_slots}
 use Rattle.c_meaning.specs.Walk.{Moment, silent_from, settled_from}
 
 -- an answer that no input would change: a value or a fault
@@ -58,17 +58,17 @@ PrefixesAreRuns =
     → IsRun unit (first ++ later) last → (middle : Config Frame) × IsRun unit first middle
 
 -- a path of one silent edge or more
-pub data SilentPath (drawn : List Drawn) : ℕ → ℕ → Type 0 where
-  last_edge : (d : Drawn) → Contains drawn d → d.silent ≡ true → SilentPath drawn d.edge.from d.edge.to
-  first_edge : (d : Drawn) → (to : ℕ) → Contains drawn d → d.silent ≡ true → SilentPath drawn d.edge.to to
-      → SilentPath drawn d.edge.from to
+pub data SilentPath (edges : List MarkedEdge) : ℕ → ℕ → Type 0 where
+  last_edge : (d : MarkedEdge) → Contains edges d → d.silent ≡ true → SilentPath edges d.edge.from d.edge.to
+  first_edge : (d : MarkedEdge) → (to : ℕ) → Contains edges d → d.silent ≡ true → SilentPath edges d.edge.to to
+      → SilentPath edges d.edge.from to
 
 -- the silent edges of a function form no circle
 abbrev pub SilentEdgesEnd : Type 0
-SilentEdgesEnd = (f : Function) (node : ℕ) → ¬ SilentPath (draft_of f).drawn node node
+SilentEdgesEnd = (f : Function) (node : ℕ) → ¬ SilentPath (flow_of f).edges node node
 
 -- where a thread has done silent edges while it could, no silent edge can be done
 abbrev pub SilentEdgesRunOut : Type 0
 SilentEdgesRunOut =
     (f : Function) (m : Moment)
-    → silent_from (graph_slots f) (draft_of f).drawn 0 (settled_from (graph_slots f) (draft_of f).drawn m).1 ≡ None
+    → silent_from (graph_slots f) (flow_of f).edges 0 (settled_from (graph_slots f) (flow_of f).edges m).1 ≡ None

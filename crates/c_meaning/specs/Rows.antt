@@ -16,10 +16,10 @@ use Rattle.gob_tree.specs.declared.graph.Action as Action
 use Rattle.gob_tree.specs.declared.unit.Slot.{Slot}
 use Rattle.c_meaning.specs.declared.demand.Demand as Demand
 use Rattle.c_meaning.specs.declared.config.Todo.{Todo}
-use Rattle.c_meaning.specs.declared.config.Todo.TheVariants.{Stmt as Do, Test}
+use Rattle.c_meaning.specs.declared.config.Todo.TheVariants.{Stmt as Doing, Test}
 use Rattle.c_meaning.specs.Demand.{slot_width, value_at, unary_width, unary_value, binary_width, binary_value, early_value, wider, and_then, next_input, decided_or, width_of, demand_of, demands_of}
 use Rattle.c_meaning.specs.Tree.{statements, with_front}
-use Rattle.c_meaning.specs.Graph.{Draft, Route, Spot, next_node, with_edge, hoisting_of, hoist_all, fetch, unary_hoist, binary_join, stop_of, call_fetch, hoisted_expr, hoisted_exprs, last_edge, call_edge, sequence, if_draft, while_draft, do_draft, for_first, for_draft, condition, lowering_of}
+use Rattle.c_meaning.specs.Graph.{FlowGraph, Route, HoistState, next_node, with_edge, hoisting_of, hoist_all, fetch, unary_hoist, binary_join, stop_of, call_fetch, hoisted_expr, hoisted_exprs, last_edge, call_edge, sequence, if_flow, while_flow, do_flow, for_first, for_flow, condition, lowering_of}
 
 -- a statement at a place
 abbrev pub placed : Place → Stmt → Placed
@@ -69,74 +69,74 @@ pub record UnrollRows : Type 0 where
   pub for_loop : (place : Place) (s : Placed) (ss : List Placed) (test : Option Expr) (last : Option Placed) (body : Placed) (rest : List Todo)
       → with_front (placed place (Stmt.For (s ∷ ss) test last body)) rest
       ≡ with_front s (statements ss ++ Test (placed place (Stmt.For (s ∷ ss) test last body)) ∷ rest)
-  pub empty_block : (place : Place) (rest : List Todo) → with_front (placed place (Stmt.Block [])) rest ≡ Do (placed place (Stmt.Block [])) ∷ rest
+  pub empty_block : (place : Place) (rest : List Todo) → with_front (placed place (Stmt.Block [])) rest ≡ Doing (placed place (Stmt.Block [])) ∷ rest
   pub while_loop : (place : Place) (e : Expr) (body : Placed) (rest : List Todo)
-      → with_front (placed place (Stmt.While e body)) rest ≡ Do (placed place (Stmt.While e body)) ∷ rest
+      → with_front (placed place (Stmt.While e body)) rest ≡ Doing (placed place (Stmt.While e body)) ∷ rest
   pub branch : (place : Place) (e : Expr) (a : Placed) (b : Option Placed) (rest : List Todo)
-      → with_front (placed place (Stmt.If e a b)) rest ≡ Do (placed place (Stmt.If e a b)) ∷ rest
+      → with_front (placed place (Stmt.If e a b)) rest ≡ Doing (placed place (Stmt.If e a b)) ∷ rest
 
 -- how each form of expression is hoisted
 pub record HoistRows : Type 0 where
-  pub number : (n : ℤ) (w : Width) (place : Place) (s : Spot) → (hoisting_of (Number n w)).hoist place s ≡ (Number n w, s)
-  pub local : (x : ℕ) (place : Place) (s : Spot) → (hoisting_of (Local x)).hoist place s ≡ (Local x, s)
-  pub global : (g : ℕ) (w : Width) (place : Place) (s : Spot)
+  pub number : (n : ℤ) (w : Width) (place : Place) (s : HoistState) → (hoisting_of (Number n w)).hoist place s ≡ (Number n w, s)
+  pub local : (x : ℕ) (place : Place) (s : HoistState) → (hoisting_of (Local x)).hoist place s ≡ (Local x, s)
+  pub global : (g : ℕ) (w : Width) (place : Place) (s : HoistState)
       → (hoisting_of (Global g w)).hoist place s ≡ fetch place w (λ t. Action.TheVariants.Read t g) s
-  pub nondet : (w : Width) (place : Place) (s : Spot)
+  pub nondet : (w : Width) (place : Place) (s : HoistState)
       → (hoisting_of (Nondet w)).hoist place s ≡ fetch place w (λ t. Action.TheVariants.Nondet t) s
-  pub unary : (op : UnOp) (a : Expr) (place : Place) (s : Spot)
+  pub unary : (op : UnOp) (a : Expr) (place : Place) (s : HoistState)
       → (hoisting_of (Unary op a)).hoist place s ≡ unary_hoist (Unary op) ((hoisting_of a).hoist place s)
-  pub binary : (op : BinOp) (a b : Expr) (place : Place) (s : Spot)
+  pub binary : (op : BinOp) (a b : Expr) (place : Place) (s : HoistState)
       → (hoisting_of (Binary op a b)).hoist place s ≡ binary_join op (stop_of op) (hoisting_of b) place ((hoisting_of a).hoist place s)
-  pub call : (f : ℕ) (w : Width) (args : List Expr) (place : Place) (s : Spot)
+  pub call : (f : ℕ) (w : Width) (args : List Expr) (place : Place) (s : HoistState)
       → (hoisting_of (Call f w args)).hoist place s ≡ call_fetch f w place (hoist_all (map hoisting_of args) place s)
 
--- a statement's draft along a route
-abbrev pub lowered : Placed → Route → Draft → Draft
+-- the graph after a statement along a route
+abbrev pub lowered : Placed → Route → FlowGraph → FlowGraph
 lowered p = (lowering_of p).lower
 
 -- how each form of statement is lowered
 pub record LowerRows : Type 0 where
-  pub declare : (place : Place) (x : ℕ) (r : Route) (d : Draft)
+  pub declare : (place : Place) (x : ℕ) (r : Route) (d : FlowGraph)
       → lowered (placed place (Stmt.Declare x None)) r d ≡ with_edge r.from (Action.TheVariants.Nondet x) r.to d
-  pub declare_as : (place : Place) (x : ℕ) (e : Expr) (r : Route) (d : Draft)
+  pub declare_as : (place : Place) (x : ℕ) (e : Expr) (r : Route) (d : FlowGraph)
       → lowered (placed place (Stmt.Declare x (Some e))) r d ≡ last_edge (Action.TheVariants.Assign x) r.to (hoisted_expr e place r.from d)
-  pub thread_variable : (place : Place) (x : ℕ) (r : Route) (d : Draft)
+  pub thread_variable : (place : Place) (x : ℕ) (r : Route) (d : FlowGraph)
       → lowered (placed place (Stmt.DeclareThread x)) r d ≡ with_edge r.from Action.TheVariants.Skip r.to d
-  pub assign_local : (place : Place) (x : ℕ) (e : Expr) (r : Route) (d : Draft)
+  pub assign_local : (place : Place) (x : ℕ) (e : Expr) (r : Route) (d : FlowGraph)
       → lowered (placed place (Stmt.Assign (Target.Local x) e)) r d ≡ last_edge (Action.TheVariants.Assign x) r.to (hoisted_expr e place r.from d)
-  pub assign_global : (place : Place) (g : ℕ) (e : Expr) (r : Route) (d : Draft)
+  pub assign_global : (place : Place) (g : ℕ) (e : Expr) (r : Route) (d : FlowGraph)
       → lowered (placed place (Stmt.Assign (Target.Global g) e)) r d ≡ last_edge (Action.TheVariants.Write g) r.to (hoisted_expr e place r.from d)
-  pub call_alone : (place : Place) (f : ℕ) (args : List Expr) (r : Route) (d : Draft)
+  pub call_alone : (place : Place) (f : ℕ) (args : List Expr) (r : Route) (d : FlowGraph)
       → lowered (placed place (Stmt.CallOnly f args)) r d ≡ call_edge f r.to (hoisted_exprs args place r.from d)
-  pub branch : (place : Place) (e : Expr) (a : Placed) (b : Option Placed) (r : Route) (d : Draft)
-      → lowered (placed place (Stmt.If e a b)) r d ≡ if_draft (lowering_of a) (option_map lowering_of b) r (hoisted_expr e place r.from d)
-  pub while_loop : (place : Place) (e : Expr) (body : Placed) (r : Route) (d : Draft)
-      → lowered (placed place (Stmt.While e body)) r d ≡ while_draft (lowering_of body) r (hoisted_expr e place r.from d)
-  pub do_loop : (place : Place) (body : Placed) (e : Expr) (r : Route) (d : Draft)
-      → lowered (placed place (Stmt.DoWhile body e)) r d ≡ do_draft (lowering_of body) e place r d
-  pub for_loop : (place : Place) (first : List Placed) (test : Option Expr) (last : Option Placed) (body : Placed) (r : Route) (d : Draft)
+  pub branch : (place : Place) (e : Expr) (a : Placed) (b : Option Placed) (r : Route) (d : FlowGraph)
+      → lowered (placed place (Stmt.If e a b)) r d ≡ if_flow (lowering_of a) (option_map lowering_of b) r (hoisted_expr e place r.from d)
+  pub while_loop : (place : Place) (e : Expr) (body : Placed) (r : Route) (d : FlowGraph)
+      → lowered (placed place (Stmt.While e body)) r d ≡ while_flow (lowering_of body) r (hoisted_expr e place r.from d)
+  pub do_loop : (place : Place) (body : Placed) (e : Expr) (r : Route) (d : FlowGraph)
+      → lowered (placed place (Stmt.DoWhile body e)) r d ≡ do_flow (lowering_of body) e place r d
+  pub for_loop : (place : Place) (first : List Placed) (test : Option Expr) (last : Option Placed) (body : Placed) (r : Route) (d : FlowGraph)
       → lowered (placed place (Stmt.For first test last body)) r d
-      ≡ for_draft (option_map lowering_of last) (lowering_of body) place (next_node d) r
+      ≡ for_flow (option_map lowering_of last) (lowering_of body) place (next_node d) r
       (hoisted_expr (condition test) place (next_node d) (for_first (map lowering_of first) place r d))
-  pub block : (place : Place) (all : List Placed) (r : Route) (d : Draft)
+  pub block : (place : Place) (all : List Placed) (r : Route) (d : FlowGraph)
       → lowered (placed place (Stmt.Block all)) r d ≡ sequence (map lowering_of all) r d
-  pub break_off : (place : Place) (r : Route) (d : Draft)
+  pub break_off : (place : Place) (r : Route) (d : FlowGraph)
       → lowered (placed place Stmt.Break) r d ≡ with_edge r.from Action.TheVariants.Skip r.on_break d
-  pub continue_on : (place : Place) (r : Route) (d : Draft)
+  pub continue_on : (place : Place) (r : Route) (d : FlowGraph)
       → lowered (placed place Stmt.Continue) r d ≡ with_edge r.from Action.TheVariants.Skip r.on_continue d
-  pub return_value : (place : Place) (e : Expr) (r : Route) (d : Draft)
+  pub return_value : (place : Place) (e : Expr) (r : Route) (d : FlowGraph)
       → lowered (placed place (Stmt.Return (Some e))) r d ≡ last_edge (Action.TheVariants.Assign 0) 1 (hoisted_expr e place r.from d)
-  pub return_plain : (place : Place) (r : Route) (d : Draft)
+  pub return_plain : (place : Place) (r : Route) (d : FlowGraph)
       → lowered (placed place (Stmt.Return None)) r d ≡ with_edge r.from Action.TheVariants.Skip 1 d
-  pub create : (place : Place) (x f : ℕ) (r : Route) (d : Draft)
+  pub create : (place : Place) (x f : ℕ) (r : Route) (d : FlowGraph)
       → lowered (placed place (Stmt.Create x f)) r d ≡ with_edge r.from (Action.TheVariants.Create x f) r.to d
-  pub join : (place : Place) (x : ℕ) (r : Route) (d : Draft)
+  pub join : (place : Place) (x : ℕ) (r : Route) (d : FlowGraph)
       → lowered (placed place (Stmt.Join x)) r d ≡ with_edge r.from (Action.TheVariants.Join x) r.to d
-  pub lock : (place : Place) (m : ℕ) (r : Route) (d : Draft)
+  pub lock : (place : Place) (m : ℕ) (r : Route) (d : FlowGraph)
       → lowered (placed place (Stmt.Lock m)) r d ≡ with_edge r.from (Action.TheVariants.Lock m) r.to d
-  pub unlock : (place : Place) (m : ℕ) (r : Route) (d : Draft)
+  pub unlock : (place : Place) (m : ℕ) (r : Route) (d : FlowGraph)
       → lowered (placed place (Stmt.Unlock m)) r d ≡ with_edge r.from (Action.TheVariants.Unlock m) r.to d
-  pub check : (place : Place) (e : Expr) (r : Route) (d : Draft)
+  pub check : (place : Place) (e : Expr) (r : Route) (d : FlowGraph)
       → lowered (placed place (Stmt.Assert e)) r d ≡ last_edge Action.TheVariants.Assert r.to (hoisted_expr e place r.from d)
-  pub nothing : (place : Place) (r : Route) (d : Draft)
+  pub nothing : (place : Place) (r : Route) (d : FlowGraph)
       → lowered (placed place Stmt.Empty) r d ≡ with_edge r.from Action.TheVariants.Skip r.to d

@@ -3,7 +3,7 @@
 -- A reader should check: what a frame has still to do after each statement, which expressions a
 -- front statement evaluates, what a step gets where an input is missing, what each statement does,
 -- and the order of the answers.
-use Rattle.std.specs.Prelude.{ℕ, ℤ, pos, Bool, true, false, if◌then◌else◌, List, [], ◌∷◌, ◌++◌, map, Option, None, Some, Result, Ok, Err, slice_get, slice_index_or, slice_set, nat_eq}
+use Rattle.std.specs.Prelude.{ℕ, ℤ, pos, Bool, true, false, if◌then◌else◌, List, [], ◌∷◌, ◌++◌, map, Option, None, Some, Result, Ok, Err, slice_get, slice_index_or, slice_set}
 use Rattle.std.specs.Option.{option_map_or}
 use Rattle.gob_tree.specs.declared.expr.Width.TheVariants.{W32}
 use Rattle.gob_tree.specs.declared.expr.Expr.{Expr, Number}
@@ -17,11 +17,11 @@ use Rattle.gob_tree.specs.declared.unit.Unit.{Unit as TranslationUnit}
 use Rattle.c_meaning.specs.declared.demand.Demand.{Demand}
 use Rattle.c_meaning.specs.declared.demand.Demand.TheVariants.{Global, Nondet, Call, Fault}
 use Rattle.c_meaning.specs.declared.config.Todo.{Todo}
-use Rattle.c_meaning.specs.declared.config.Todo.TheVariants.{Stmt as Do, Test, Last}
+use Rattle.c_meaning.specs.declared.config.Todo.TheVariants.{Stmt as Doing, Test, Last}
 use Rattle.c_meaning.specs.declared.config.Stepped.{Stepped}
 use Rattle.c_meaning.specs.declared.config.Stepped.TheVariants.{Moved, Blocked, Faulted, Ended, NoThread}
 use Rattle.c_meaning.specs.Demand.{conversion, value_at, with_slot, slot_width, is_zero, demands_of}
-use Rattle.c_meaning.specs.Config.{Config, thread_at, Effect, Keeps, SetsGlobal, SetsOwner, Starts, after_effect, next_thread, owner_at, global_at, global_width, first_values, unset_vars, first_config}
+use Rattle.c_meaning.specs.Config.{Config, thread_at, Effect, Keeps, SetsGlobal, SetsOwner, Starts, after_effect, next_thread, owner_at, owner_after_lock, owner_after_unlock, has_ended_by, slots_in, global_at, global_width, first_values, unset_vars, first_config}
 
 -- ---- what is still to do
 
@@ -30,7 +30,7 @@ abbrev pub layer_of : Placed → Stmt-F Stmt Placed
 layer_of p = out-Stmt p.stmt
 
 abbrev pub statements : List Placed → List Todo
-statements = map Do
+statements = map Doing
 
 -- a statement, and what unrolling it puts in front of the rest
 abbrev pub Opened : Type 0
@@ -39,12 +39,12 @@ Opened = Placed × (List Todo → List Todo)
 -- A block that isn't empty unrolls into its statements, a `do` into its body followed by its test,
 -- and a `for` into its first part, if it has one, followed by its test.
 abbrev pub unroll_stmt : Stmt-F (Stmt × (Placed → List Todo → List Todo)) Opened → Placed → List Todo → List Todo
-unroll_stmt (Stmt-F.Block []) own rest = Do own ∷ rest
+unroll_stmt (Stmt-F.Block []) own rest = Doing own ∷ rest
 unroll_stmt (Stmt-F.Block (s ∷ ss)) own rest = s.1 (statements (map (λ p. p.0) ss) ++ rest)
 unroll_stmt (Stmt-F.DoWhile body e) own rest = body.1 (Test own ∷ rest)
 unroll_stmt (Stmt-F.For [] test last body) own rest = Test own ∷ rest
 unroll_stmt (Stmt-F.For (s ∷ ss) test last body) own rest = s.1 (statements (map (λ p. p.0) ss) ++ Test own ∷ rest)
-unroll_stmt other own rest = Do own ∷ rest
+unroll_stmt other own rest = Doing own ∷ rest
 
 abbrev pub unroll_placed : Placed-F (Stmt × (Placed → List Todo → List Todo)) Opened → List Todo → List Todo
 unroll_placed p = p.stmt.1 (record { place = p.place; stmt = p.stmt.0 })
@@ -55,21 +55,21 @@ with_front = para-Placed (Placed → List Todo → List Todo) (List Todo → Lis
 
 abbrev pub unrolling : List Todo → List Todo
 unrolling [] = []
-unrolling (Do p ∷ rest) = with_front p rest
+unrolling (Doing p ∷ rest) = with_front p rest
 unrolling (Test p ∷ rest) = Test p ∷ rest
 unrolling (Last p ∷ rest) = Last p ∷ rest
 
 -- what is left after `break`: all after the test of the innermost loop that has begun
 abbrev pub after_break : List Todo → List Todo
 after_break [] = []
-after_break (Do p ∷ rest) = after_break rest
+after_break (Doing p ∷ rest) = after_break rest
 after_break (Last p ∷ rest) = after_break rest
 after_break (Test p ∷ rest) = rest
 
 -- what is left after `continue`: that loop's last part, if it has one, and its test
 abbrev pub after_continue : List Todo → List Todo
 after_continue [] = []
-after_continue (Do p ∷ rest) = after_continue rest
+after_continue (Doing p ∷ rest) = after_continue rest
 after_continue (Last p ∷ rest) = Last p ∷ rest
 after_continue (Test p ∷ rest) = Test p ∷ rest
 
@@ -101,7 +101,7 @@ last_exprs (Stmt-F.For first test (Some last) body) = stmt_exprs (layer_of last)
 last_exprs other = []
 
 abbrev pub exprs_of : Todo → List Expr
-exprs_of (Do p) = stmt_exprs (layer_of p)
+exprs_of (Doing p) = stmt_exprs (layer_of p)
 exprs_of (Test p) = test_exprs (layer_of p)
 exprs_of (Last p) = last_exprs (layer_of p)
 
@@ -121,7 +121,7 @@ pub record Frame : Type 0 where
   pub ins : List ℤ
 
 abbrev pub func_slots : TranslationUnit → ℕ → List Slot
-func_slots unit f = option_map_or (λ func. func.slots) (slice_get unit.funcs f) []
+func_slots unit = slots_in (λ func. func.slots) unit.funcs
 
 -- a new frame of a function
 abbrev pub frame_of : ℕ → Function → List ℤ → Frame
@@ -211,39 +211,36 @@ frames_after_return unit (caller ∷ below) n = caller_after unit caller n ∷ b
 
 -- what comes after a branch
 abbrev pub after_branch : ℤ → Placed → Option Placed → List Todo → List Todo
-after_branch n a b rest = if is_zero n then option_map_or (λ other. Do other ∷ rest) b rest else Do a ∷ rest
+after_branch n a b rest = if is_zero n then option_map_or (λ other. Doing other ∷ rest) b rest else Doing a ∷ rest
 
 -- a loop's body, and what comes after it
 abbrev pub turn_of : Stmt-F Stmt Placed → Placed → List Todo → List Todo
-turn_of (Stmt-F.While e body) own rest = Do body ∷ Test own ∷ rest
-turn_of (Stmt-F.DoWhile body e) own rest = Do body ∷ Test own ∷ rest
-turn_of (Stmt-F.For first test None body) own rest = Do body ∷ Test own ∷ rest
-turn_of (Stmt-F.For first test (Some last) body) own rest = Do body ∷ Last own ∷ Test own ∷ rest
+turn_of (Stmt-F.While e body) own rest = Doing body ∷ Test own ∷ rest
+turn_of (Stmt-F.DoWhile body e) own rest = Doing body ∷ Test own ∷ rest
+turn_of (Stmt-F.For first test None body) own rest = Doing body ∷ Test own ∷ rest
+turn_of (Stmt-F.For first test (Some last) body) own rest = Doing body ∷ Last own ∷ Test own ∷ rest
 turn_of other own rest = rest
 
 -- what comes after a loop's test
 abbrev pub after_test : ℤ → Placed → List Todo → List Todo
 after_test n own rest = if is_zero n then rest else turn_of (layer_of own) own rest
 
+-- a thread whose first frame has returned has no frames, and has ended
 abbrev pub is_over : List Frame → Bool
 is_over [] = true
 is_over (frame ∷ below) = false
 
--- whether there is such a thread and it has ended
 abbrev pub has_ended : Config Frame → ℕ → Bool
-has_ended c t = option_map_or is_over (thread_at c.threads t) false
+has_ended = has_ended_by is_over
 
 abbrev pub join_step : Site → Option ℕ → List Todo → FrameStep
 join_step s None next = Fails
 join_step s (Some t) next = if has_ended s.config t then pass_step s next else Waits
 
-abbrev pub lock_step : Site → ℕ → Option ℕ → List Todo → FrameStep
-lock_step s m None next = effect_step s next (SetsOwner m (Some s.thread))
-lock_step s m (Some owner) next = Waits
-
-abbrev pub unlock_step : Site → ℕ → Option ℕ → List Todo → FrameStep
-unlock_step s m None next = Fails
-unlock_step s m (Some owner) next = if nat_eq owner s.thread then effect_step s next (SetsOwner m None) else Fails
+-- a mutex gets another owner, where the thread can give it one
+abbrev pub owner_step : Site → ℕ → List Todo → FrameStep → Option (Option ℕ) → FrameStep
+owner_step s m next otherwise None = otherwise
+owner_step s m next otherwise (Some owner) = effect_step s next (SetsOwner m owner)
 
 abbrev pub create_step : Site → ℕ → ℕ → List Todo → FrameStep
 create_step s var f next =
@@ -270,8 +267,8 @@ stmt_step Stmt-F.Continue own rest s values = pass_step s (after_continue rest)
 stmt_step (Stmt-F.Return e) own rest s values = Goes (frames_after_return s.unit s.below (return_value s e values)) Keeps
 stmt_step (Stmt-F.Create var f) own rest s values = create_step s var f rest
 stmt_step (Stmt-F.Join var) own rest s values = join_step s (slice_index_or s.frame.vars var None) rest
-stmt_step (Stmt-F.Lock m) own rest s values = lock_step s m (owner_at s.config m) rest
-stmt_step (Stmt-F.Unlock m) own rest s values = unlock_step s m (owner_at s.config m) rest
+stmt_step (Stmt-F.Lock m) own rest s values = owner_step s m rest Waits (owner_after_lock s.thread (owner_at s.config m))
+stmt_step (Stmt-F.Unlock m) own rest s values = owner_step s m rest Fails (owner_after_unlock s.thread (owner_at s.config m))
 stmt_step (Stmt-F.Assert e) own rest s values = if is_zero (only values) then Fails else pass_step s rest
 stmt_step Stmt-F.Empty own rest s values = pass_step s rest
 
@@ -280,7 +277,7 @@ last_step (Stmt-F.For first test (Some last) body) rest s values = stmt_step (la
 last_step other rest s values = pass_step s rest
 
 abbrev pub todo_step : Todo → List Todo → Site → List ℤ → FrameStep
-todo_step (Do p) rest s values = stmt_step (layer_of p) p rest s values
+todo_step (Doing p) rest s values = stmt_step (layer_of p) p rest s values
 todo_step (Test p) rest s values = pass_step s (after_test (only values) p rest)
 todo_step (Last p) rest s values = last_step (layer_of p) rest s values
 

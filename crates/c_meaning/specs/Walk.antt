@@ -24,7 +24,7 @@ use Rattle.c_meaning.specs.declared.config.Choice.{Choice}
 use Rattle.c_meaning.specs.Demand.{with_slot}
 use Rattle.c_meaning.specs.Config.{Config, thread_at, next_thread}
 use Rattle.c_meaning.specs.Tree as Tree
-use Rattle.c_meaning.specs.Graph.{Draft, Drawn, Route, Hoisted, lowering_of, next_node, with_node, hoisted_expr, if_head, while_head, body_route, for_first, for_head, condition, first_draft, first_route, draft_of, graph_slots, Marked, marked_of, program_of}
+use Rattle.c_meaning.specs.Graph.{FlowGraph, MarkedEdge, Route, Hoisted, lowering_of, next_node, with_node, hoisted_expr, route_to, route_from, then_route, else_route, while_route, do_route, first_route, for_route, last_node, if_head, while_head, for_first, for_head, condition, first_flow, body_route, flow_of, graph_slots, MarkedProgram, marked_of, program_of}
 use Rattle.c_meaning.specs.GraphStep as Graph
 use Rattle.c_meaning.specs.GraphStep.{Label, Do, Enter, Leave, local_slots, after_label, edge_at, first_graph}
 
@@ -36,38 +36,36 @@ Begun = Todo × ℕ
 
 -- a statement, and what begins in it along a route
 abbrev pub Beginning : Type 0
-Beginning = Placed × (Route → Draft → List Begun)
+Beginning = Placed × (Route → FlowGraph → List Begun)
 
-abbrev pub draft_after : Beginning → Route → Draft → Draft
-draft_after s = (lowering_of s.0).lower
+abbrev pub flow_after : Beginning → Route → FlowGraph → FlowGraph
+flow_after s = (lowering_of s.0).lower
 
 abbrev pub start_of : Beginning → Place
 start_of s = (lowering_of s.0).start
 
 -- in a list of statements, as they are lowered one after another
-abbrev pub sequence_begun : List Beginning → Route → Draft → List Begun
+abbrev pub sequence_begun : List Beginning → Route → FlowGraph → List Begun
 sequence_begun [] r d = []
 sequence_begun (s ∷ []) r d = s.1 r d
 sequence_begun (s ∷ s' ∷ ss) r d =
     let node = next_node d in
-    let first = record r { to = node } in
     let opened = with_node (start_of s') d in
-    s.1 first opened ++ sequence_begun (s' ∷ ss) (record r { from = node }) (draft_after s first opened)
+    s.1 (route_to node r) opened ++ sequence_begun (s' ∷ ss) (route_from node r) (flow_after s (route_to node r) opened)
 
 abbrev pub if_begun : Beginning → Option Beginning → Route → Hoisted Expr → List Begun
-if_begun a None r e = a.1 (record r { from = next_node e.1.draft }) (if_head (start_of a) None r.to e)
+if_begun a None r e = a.1 (then_route r e) (if_head (start_of a) None r.to e)
 if_begun a (Some b) r e =
-    let yes = record r { from = next_node e.1.draft } in
     let opened = if_head (start_of a) (Some (start_of b)) r.to e in
-    a.1 yes opened ++ b.1 (record r { from = next_node e.1.draft + 1 }) (draft_after a yes opened)
+    a.1 (then_route r e) opened ++ b.1 (else_route r e) (flow_after a (then_route r e) opened)
 
 abbrev pub while_begun : Placed → Beginning → Route → Hoisted Expr → List Begun
 while_begun own body r e =
-    (Test own, r.from) ∷ body.1 (body_route (next_node e.1.draft) r.from r.to) (while_head (start_of body) r.to e)
+    (Test own, r.from) ∷ body.1 (while_route r e) (while_head (start_of body) r.to e)
 
-abbrev pub do_begun : Placed → Beginning → Route → Draft → List Begun
+abbrev pub do_begun : Placed → Beginning → Route → FlowGraph → List Begun
 do_begun own body r d =
-    (Test own, next_node d) ∷ body.1 (body_route r.from (next_node d) r.to) (with_node own.place d)
+    (Test own, next_node d) ∷ body.1 (do_route r (next_node d)) (with_node own.place d)
 
 abbrev pub last_begun : Placed → ℕ → Option Beginning → List Begun
 last_begun own node None = []
@@ -75,18 +73,17 @@ last_begun own node (Some last) = (Last own, node) ∷ []
 
 abbrev pub for_body_begun : Placed → Option Beginning → Beginning → ℕ → Route → Hoisted Expr → List Begun
 for_body_begun own last body test r e =
-    let body_node = next_node e.1.draft in
     (Test own, test)
-    ∷ body.1 (body_route body_node (body_node + 1) r.to) (for_head (start_of body) (option_map_or start_of last own.place) r.to e)
-    ++ last_begun own (body_node + 1) last
+    ∷ body.1 (for_route r e) (for_head (start_of body) (option_map_or start_of last own.place) r.to e)
+    ++ last_begun own (last_node e) last
 
-abbrev pub for_all_begun : Placed → List Beginning → Option Expr → Option Beginning → Beginning → Route → Draft → List Begun
+abbrev pub for_all_begun : Placed → List Beginning → Option Expr → Option Beginning → Beginning → Route → FlowGraph → List Begun
 for_all_begun own first test last body r d =
     let begun = for_first (map (λ s. lowering_of s.0) first) own.place r d in
-    sequence_begun first (record r { to = next_node d }) (with_node own.place d)
+    sequence_begun first (first_route r (next_node d)) (with_node own.place d)
     ++ for_body_begun own last body (next_node d) r (hoisted_expr (condition test) own.place (next_node d) begun)
 
-abbrev pub parts_begun : Stmt-F (Stmt × (Placed → Route → Draft → List Begun)) Beginning → Placed → Route → Draft → List Begun
+abbrev pub parts_begun : Stmt-F (Stmt × (Placed → Route → FlowGraph → List Begun)) Beginning → Placed → Route → FlowGraph → List Begun
 parts_begun (Stmt-F.If e a b) own r d = if_begun a b r (hoisted_expr e own.place r.from d)
 parts_begun (Stmt-F.While e body) own r d = while_begun own body r (hoisted_expr e own.place r.from d)
 parts_begun (Stmt-F.DoWhile body e) own r d = do_begun own body r d
@@ -95,18 +92,18 @@ parts_begun (Stmt-F.Block all) own r d = sequence_begun all r d
 parts_begun other own r d = []
 
 -- a statement itself begins at the start of its route
-abbrev pub stmt_begun : Stmt-F (Stmt × (Placed → Route → Draft → List Begun)) Beginning → Placed → Route → Draft → List Begun
+abbrev pub stmt_begun : Stmt-F (Stmt × (Placed → Route → FlowGraph → List Begun)) Beginning → Placed → Route → FlowGraph → List Begun
 stmt_begun s own r d = (Doing own, r.from) ∷ parts_begun s own r d
 
-abbrev pub placed_begun : Placed-F (Stmt × (Placed → Route → Draft → List Begun)) Beginning → Route → Draft → List Begun
+abbrev pub placed_begun : Placed-F (Stmt × (Placed → Route → FlowGraph → List Begun)) Beginning → Route → FlowGraph → List Begun
 placed_begun p = p.stmt.1 (record { place = p.place; stmt = p.stmt.0 })
 
-abbrev pub begun_in : Placed → Route → Draft → List Begun
-begun_in = para-Placed (Placed → Route → Draft → List Begun) (Route → Draft → List Begun) stmt_begun placed_begun
+abbrev pub begun_in : Placed → Route → FlowGraph → List Begun
+begun_in = para-Placed (Placed → Route → FlowGraph → List Begun) (Route → FlowGraph → List Begun) stmt_begun placed_begun
 
 -- all that begins in a function, and where
 abbrev pub begun_of : Function → List Begun
-begun_of f = sequence_begun (map (λ p. (p, begun_in p)) f.body) first_route (first_draft f)
+begun_of f = sequence_begun (map (λ p. (p, begun_in p)) f.body) body_route (first_flow f)
 
 -- ---- moving along
 
@@ -119,16 +116,16 @@ abbrev pub moment_after : Edge → List ℤ → Moment
 moment_after edge slots = record { node = edge.to; slots = slots }
 
 -- the slots after a silent edge from here, if it is one and can be done
-abbrev pub silent_slots : List Slot → Drawn → Moment → Option (List ℤ)
+abbrev pub silent_slots : List Slot → MarkedEdge → Moment → Option (List ℤ)
 silent_slots slots d m =
     if d.silent && nat_eq d.edge.from m.node then local_slots slots d.edge.act m.slots else None
 
 -- the first silent edge that leaves here and can be done, from the i-th on, and where it leads
-abbrev pub first_or : Drawn → ℕ → Option (ℕ × Moment) → Option (List ℤ) → Option (ℕ × Moment)
+abbrev pub first_or : MarkedEdge → ℕ → Option (ℕ × Moment) → Option (List ℤ) → Option (ℕ × Moment)
 first_or d i later None = later
 first_or d i later (Some slots) = Some (i, moment_after d.edge slots)
 
-abbrev pub silent_from : List Slot → List Drawn → ℕ → Moment → Option (ℕ × Moment)
+abbrev pub silent_from : List Slot → List MarkedEdge → ℕ → Moment → Option (ℕ × Moment)
 silent_from slots [] i m = None
 silent_from slots (d ∷ ds) i m = first_or d i (silent_from slots ds (i + 1) m) (silent_slots slots d m)
 
@@ -144,12 +141,12 @@ abbrev pub settled_or : Moment → (Moment → Settled) → Option (ℕ × Momen
 settled_or m go None = ([], m)
 settled_or m go (Some next) = with_edge next.0 (go next.1)
 
-abbrev pub settled_within : ℕ → List Slot → List Drawn → Moment → Settled
-settled_within zero slots drawn m = ([], m)
-settled_within (suc k) slots drawn m = settled_or m (settled_within k slots drawn) (silent_from slots drawn 0 m)
+abbrev pub settled_within : ℕ → List Slot → List MarkedEdge → Moment → Settled
+settled_within zero slots edges m = ([], m)
+settled_within (suc k) slots edges m = settled_or m (settled_within k slots edges) (silent_from slots edges 0 m)
 
-abbrev pub settled_from : List Slot → List Drawn → Moment → Settled
-settled_from slots drawn m = settled_within (length drawn) slots drawn m
+abbrev pub settled_from : List Slot → List MarkedEdge → Moment → Settled
+settled_from slots edges m = settled_within (length edges) slots edges m
 
 -- the temporary that an input goes to, and the node behind
 abbrev pub input_slot : Action → Option ℕ
@@ -158,26 +155,26 @@ input_slot (Nondet x) = Some x
 input_slot (Call d f args) = d
 input_slot other = None
 
-abbrev pub input_edge : Drawn → ℕ → Option (ℕ × ℕ)
+abbrev pub input_edge : MarkedEdge → ℕ → Option (ℕ × ℕ)
 input_edge d node = if nat_eq d.edge.from node && not d.silent then option_map (λ x. (x, d.edge.to)) (input_slot d.edge.act) else None
 
 abbrev pub input_or : Option (ℕ × ℕ) → Option (ℕ × ℕ) → Option (ℕ × ℕ)
 input_or None later = later
 input_or (Some found) later = Some found
 
-abbrev pub input_from : List Drawn → ℕ → Option (ℕ × ℕ)
+abbrev pub input_from : List MarkedEdge → ℕ → Option (ℕ × ℕ)
 input_from [] node = None
 input_from (d ∷ ds) node = input_or (input_edge d node) (input_from ds node)
 
-abbrev pub moment_with_input : List Slot → List Drawn → ℤ → Moment → Option Moment
-moment_with_input slots drawn n m =
-    option_map (λ to. record { node = to.1; slots = with_slot slots to.0 n m.slots }) (input_from drawn m.node)
+abbrev pub moment_with_input : List Slot → List MarkedEdge → ℤ → Moment → Option Moment
+moment_with_input slots edges n m =
+    option_map (λ to. record { node = to.1; slots = with_slot slots to.0 n m.slots }) (input_from edges m.node)
 
 -- the moment that each silent edge that can be done and one edge for each input lead to
-abbrev pub moment_along : List Slot → List Drawn → List ℤ → Moment → Option Moment
-moment_along slots drawn [] m = Some (settled_from slots drawn m).1
-moment_along slots drawn (n ∷ ins) m =
-    option_and_then (moment_along slots drawn ins) (moment_with_input slots drawn n (settled_from slots drawn m).1)
+abbrev pub moment_along : List Slot → List MarkedEdge → List ℤ → Moment → Option Moment
+moment_along slots edges [] m = Some (settled_from slots edges m).1
+moment_along slots edges (n ∷ ins) m =
+    option_and_then (moment_along slots edges ins) (moment_with_input slots edges n (settled_from slots edges m).1)
 
 -- ---- standing
 
@@ -190,7 +187,7 @@ pub record StandsAt (f : Function) (todo : Todo) (named ins : List ℤ) (node : 
   pub room : length values ≡ length (graph_slots f)
   pub same_named : take (length f.slots) values ≡ named
   pub along :
-      moment_along (graph_slots f) (draft_of f).drawn ins (record { node = begin; slots = values })
+      moment_along (graph_slots f) (flow_of f).edges ins (record { node = begin; slots = values })
       ≡ Some (record { node = node; slots = slots })
 
 abbrev pub StandsInFront : Option Function → List Todo → List ℤ → List ℤ → ℕ → List ℤ → Type 0
@@ -270,16 +267,16 @@ walk_on program t input labels w =
 abbrev pub frames_at : Walked → ℕ → List Graph.Frame
 frames_at w t = option_map_or (λ frames. frames) (thread_at w.config.threads t) []
 
-abbrev pub drawn_at : Marked → ℕ → List Drawn
-drawn_at m f = option_map_or (λ drawn. drawn) (slice_get m.drawn f) []
+abbrev pub marked_edges_at : MarkedProgram → ℕ → List MarkedEdge
+marked_edges_at m f = option_map_or (λ edges. edges) (slice_get m.edges f) []
 
 -- the labels of the silent edges that a thread does while one can be done
-abbrev pub silent_labels : Marked → List Graph.Frame → List Label
+abbrev pub silent_labels : MarkedProgram → List Graph.Frame → List Label
 silent_labels m [] = []
 silent_labels m (frame ∷ below) =
-    map Do (settled_from (Graph.func_slots m.program frame.func) (drawn_at m frame.func) (record { node = frame.node; slots = frame.slots })).0
+    map Do (settled_from (Graph.func_slots m.program frame.func) (marked_edges_at m frame.func) (record { node = frame.node; slots = frame.slots })).0
 
-abbrev pub after_silent : Marked → ℕ → Walked → Option Walked
+abbrev pub after_silent : MarkedProgram → ℕ → Walked → Option Walked
 after_silent m t w = walk_on m.program t (pos 0) (silent_labels m (frames_at w t)) w
 
 -- a frame that isn't the first and has come to node 1 is left
@@ -288,7 +285,7 @@ return_labels [] = []
 return_labels (frame ∷ []) = []
 return_labels (frame ∷ caller ∷ below) = if nat_eq frame.node 1 then Leave ∷ [] else []
 
-abbrev pub after_return : Marked → ℕ → Walked → Option Walked
+abbrev pub after_return : MarkedProgram → ℕ → Walked → Option Walked
 after_return m t w = walk_on m.program t (pos 0) (return_labels (frames_at w t)) w
 
 -- the label of an edge, and whether a thread begins by it
@@ -301,7 +298,7 @@ starts_thread (Create var f) = true
 starts_thread other = false
 
 -- a new thread begins with its own silent edges
-abbrev pub after_start : Marked → ℕ → Bool → Walked → Option Walked
+abbrev pub after_start : MarkedProgram → ℕ → Bool → Walked → Option Walked
 after_start m t true w = after_silent m t w
 after_start m t false w = Some w
 
@@ -309,7 +306,7 @@ after_start m t false w = Some w
 abbrev pub EdgeStep : Type 0
 EdgeStep = Option (Action × Walked)
 
-abbrev pub edge_step : Marked → ℕ → ℤ → Walked → ℕ → Drawn → EdgeStep
+abbrev pub edge_step : MarkedProgram → ℕ → ℤ → Walked → ℕ → MarkedEdge → EdgeStep
 edge_step m t input w e d =
     if d.silent then None else
     option_map (λ next. (d.edge.act, next)) (walk_on m.program t input (label_of e d.edge.act ∷ []) w)
@@ -319,31 +316,31 @@ edge_step_or None later = later
 edge_step_or (Some s) later = Some s
 
 -- the first edge from the e-th on that isn't silent and can be taken
-abbrev pub first_edge_step : Marked → ℕ → ℤ → Walked → ℕ → List Drawn → EdgeStep
+abbrev pub first_edge_step : MarkedProgram → ℕ → ℤ → Walked → ℕ → List MarkedEdge → EdgeStep
 first_edge_step m t input w e [] = None
 first_edge_step m t input w e (d ∷ ds) = edge_step_or (edge_step m t input w e d) (first_edge_step m t input w (e + 1) ds)
 
-abbrev pub top_drawn : Marked → List Graph.Frame → List Drawn
-top_drawn m [] = []
-top_drawn m (frame ∷ below) = drawn_at m frame.func
+abbrev pub top_edges : MarkedProgram → List Graph.Frame → List MarkedEdge
+top_edges m [] = []
+top_edges m (frame ∷ below) = marked_edges_at m frame.func
 
 -- what follows the edge: the return, the silent edges of the thread, and those of a new thread
-abbrev pub step_rest : Marked → ℕ → ℕ → Action × Walked → Option Walked
+abbrev pub step_rest : MarkedProgram → ℕ → ℕ → Action × Walked → Option Walked
 step_rest m t fresh s =
     option_and_then (after_start m fresh (starts_thread s.0)) (option_and_then (after_silent m t) (after_return m t s.1))
 
 -- the part of a graph's run that is one step of the tree
-abbrev pub after_choice : Marked → Choice → Walked → Option Walked
+abbrev pub after_choice : MarkedProgram → Choice → Walked → Option Walked
 after_choice m choice w =
     option_and_then (step_rest m choice.thread (next_thread w.config))
-    (first_edge_step m choice.thread choice.input w 0 (top_drawn m (frames_at w choice.thread)))
+    (first_edge_step m choice.thread choice.input w 0 (top_edges m (frames_at w choice.thread)))
 
-abbrev pub after_choices : Marked → List Choice → Walked → Option Walked
+abbrev pub after_choices : MarkedProgram → List Choice → Walked → Option Walked
 after_choices m [] w = Some w
 after_choices m (choice ∷ choices) w = option_and_then (after_choices m choices) (after_choice m choice w)
 
 -- the run of a graph that goes with a run of the tree; thread 1 begins with its silent edges
-abbrev pub graph_run : Marked → List Choice → Option Walked
+abbrev pub graph_run : MarkedProgram → List Choice → Option Walked
 graph_run m choices =
     option_and_then (after_choices m choices) (after_silent m 1 (record { moves = []; config = first_graph m.program }))
 
@@ -351,7 +348,7 @@ graph_run m choices =
 abbrev pub labels_by : ℕ → List Move → List Label
 labels_by t moves = map (λ move. move.1) (filter (λ move. nat_eq move.0 t) moves)
 
-abbrev pub walk_in : Marked → List Choice → ℕ → List Label
+abbrev pub walk_in : MarkedProgram → List Choice → ℕ → List Label
 walk_in m choices t = option_map_or (λ w. labels_by t w.moves) (graph_run m choices) []
 
 -- the labels by which a thread goes through a run

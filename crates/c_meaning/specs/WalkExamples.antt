@@ -9,41 +9,41 @@ use Rattle.c_meaning.specs.declared.config.Choice.{Choice}
 use Rattle.c_meaning.specs.declared.config.Todo.TheVariants.{Stmt as Doing}
 use Rattle.c_meaning.specs.Config.{Config}
 use Rattle.c_meaning.specs.Tree.{Frame}
-use Rattle.c_meaning.specs.Graph.{Draft, graph_with, Marked}
+use Rattle.c_meaning.specs.Graph.{FlowGraph, graph_with, MarkedProgram}
 use Rattle.c_meaning.specs.GraphStep.{Label, Do, Enter, Leave}
 use Rattle.c_meaning.specs.GraphStep as Graph
 use Rattle.c_meaning.specs.Walk.{Move, Walked}
 use Rattle.c_meaning.specs.Samples.{place, at, int, global, returns, choice}
 use Rattle.c_meaning.specs.StepExamples.{racing_main, racing_thread, calling_main, called}
-use Rattle.c_meaning.specs.GraphExamples.{quiet, loud, joining}
+use Rattle.c_meaning.specs.GraphExamples.{silent_edge, visible_edge, joining}
 
 -- ---- walks
 
-abbrev pub racing_thread_draft : Draft
-racing_thread_draft = record {
+abbrev pub racing_thread_flow : FlowGraph
+racing_thread_flow = record {
   named = 1;
   temps = [];
   nodes = place 2 7 ∷ place 2 41 ∷ place 2 20 ∷ place 2 27 ∷ [];
-  drawn = quiet 0 Skip 2 ∷ loud 2 (Write 0 (int 1)) 3 ∷ loud 3 Skip 1 ∷ [];
+  edges = silent_edge 0 Skip 2 ∷ visible_edge 2 (Write 0 (int 1)) 3 ∷ visible_edge 3 Skip 1 ∷ [];
 }
 
-abbrev pub racing_main_draft : Draft
-racing_main_draft = record {
+abbrev pub racing_main_flow : FlowGraph
+racing_main_flow = record {
   named = 2;
   temps = W32 ∷ W32 ∷ [];
   nodes = place 1 5 ∷ place 9 1 ∷ place 4 3 ∷ place 5 3 ∷ place 6 3 ∷ place 7 3 ∷ place 6 3 ∷ place 6 3 ∷ [];
-  drawn =
-      quiet 0 Skip 2
-      ∷ loud 2 Skip 3
-      ∷ loud 3 (Create 0 0) 4
-      ∷ loud 4 (Read 2 0) 6
-      ∷ loud 6 (Read 3 0) 7
-      ∷ loud 7 (Assign 1 (Binary Add (Local 2) (Local 3))) 5
-      ∷ loud 5 (Assign 0 (Local 1)) 1
+  edges =
+      silent_edge 0 Skip 2
+      ∷ visible_edge 2 Skip 3
+      ∷ visible_edge 3 (Create 0 0) 4
+      ∷ visible_edge 4 (Read 2 0) 6
+      ∷ visible_edge 6 (Read 3 0) 7
+      ∷ visible_edge 7 (Assign 1 (Binary Add (Local 2) (Local 3))) 5
+      ∷ visible_edge 5 (Assign 0 (Local 1)) 1
       ∷ [];
 }
 
-abbrev pub racing_with : Draft → Draft → Marked
+abbrev pub racing_with : FlowGraph → FlowGraph → MarkedProgram
 racing_with thread main = record {
   program = record {
     funcs = graph_with racing_thread thread ∷ graph_with racing_main main ∷ [];
@@ -51,11 +51,11 @@ racing_with thread main = record {
     mutexes = [];
     main = 1;
   };
-  drawn = thread.drawn ∷ main.drawn ∷ [];
+  edges = thread.edges ∷ main.edges ∷ [];
 }
 
-abbrev pub racing_marked : Marked
-racing_marked = racing_with racing_thread_draft racing_main_draft
+abbrev pub racing_marked : MarkedProgram
+racing_marked = racing_with racing_thread_flow racing_main_flow
 
 -- how far the two threads have got, where g has this value
 abbrev pub racing_at : ℤ → ℕ → List ℤ → ℕ → List Move → Walked
@@ -80,10 +80,10 @@ racing_walk = Do 0 ∷ Do 1 ∷ Do 2 ∷ Do 3 ∷ Do 4 ∷ Do 5 ∷ []
 abbrev pub racing_thread_walk : List Label
 racing_thread_walk = Do 0 ∷ Do 1 ∷ []
 
-abbrev pub joining_with : Draft → Marked
+abbrev pub joining_with : FlowGraph → MarkedProgram
 joining_with main = record {
   program = record { funcs = graph_with joining main ∷ []; globals = global (pos 5) ∷ []; mutexes = []; main = 0 };
-  drawn = main.drawn ∷ [];
+  edges = main.edges ∷ [];
 }
 
 abbrev pub joining_at : ℕ → List ℤ → List Move → Walked
@@ -103,31 +103,31 @@ joining_choices = choice 1 0 ∷ choice 1 0 ∷ choice 1 0 ∷ []
 abbrev pub joining_walk : List Label
 joining_walk = Do 0 ∷ Do 1 ∷ Do 4 ∷ Do 5 ∷ Do 6 ∷ Do 7 ∷ []
 
-abbrev pub called_draft : Draft
-called_draft = record {
+abbrev pub called_flow : FlowGraph
+called_flow = record {
   named = 2;
   temps = [];
   nodes = place 1 5 ∷ place 1 30 ∷ place 1 16 ∷ [];
-  drawn = quiet 0 Skip 2 ∷ loud 2 (Assign 0 (Binary Add (Local 1) (int 1))) 1 ∷ [];
+  edges = silent_edge 0 Skip 2 ∷ visible_edge 2 (Assign 0 (Binary Add (Local 1) (int 1))) 1 ∷ [];
 }
 
-abbrev pub calling_draft : Draft
-calling_draft = record {
+abbrev pub calling_flow : FlowGraph
+calling_flow = record {
   named = 2;
   temps = W32 ∷ [];
   nodes = place 1 5 ∷ place 9 1 ∷ place 3 3 ∷ place 8 3 ∷ place 3 3 ∷ [];
-  drawn =
-      quiet 0 Skip 2
-      ∷ loud 2 (CallEdge (Some 2) 0 (int 1 ∷ [])) 4
-      ∷ loud 4 (Assign 1 (Local 2)) 3
-      ∷ loud 3 (Assign 0 (Local 1)) 1
+  edges =
+      silent_edge 0 Skip 2
+      ∷ visible_edge 2 (CallEdge (Some 2) 0 (int 1 ∷ [])) 4
+      ∷ visible_edge 4 (Assign 1 (Local 2)) 3
+      ∷ visible_edge 3 (Assign 0 (Local 1)) 1
       ∷ [];
 }
 
-abbrev pub calling_with : Draft → Draft → Marked
+abbrev pub calling_with : FlowGraph → FlowGraph → MarkedProgram
 calling_with callee main = record {
   program = record { funcs = graph_with called callee ∷ graph_with calling_main main ∷ []; globals = []; mutexes = []; main = 1 };
-  drawn = callee.drawn ∷ main.drawn ∷ [];
+  edges = callee.edges ∷ main.edges ∷ [];
 }
 
 abbrev pub calling_at : List Graph.Frame → List Move → Walked

@@ -1,6 +1,6 @@
 ghost use Rattle.std.specs.Prelude.{◌≡◌, pos, negsuc, [], ◌∷◌, Ok, Err};
 ghost use Rattle.c_meaning.specs.Demand.{demand_of, value_of, with_slot};
-ghost use Rattle.c_meaning.specs.Graph.{draft_of};
+ghost use Rattle.c_meaning.specs.Graph.{flow_of};
 ghost use Rattle.c_meaning.specs.Walk.{walk_of, Stands};
 ghost use Rattle.c_meaning.specs.Samples.{answers, left, slots_of};
 ghost use Rattle.c_meaning.specs.StepExamples.{
@@ -52,18 +52,18 @@ ghost use Rattle.c_meaning.specs.StepExamples.{
 };
 ghost use Rattle.c_meaning.specs.GraphExamples.{
   counting,
-  counting_draft,
+  counting_flow,
   doubling,
-  doubling_draft,
+  doubling_flow,
   joining,
-  joining_draft,
+  joining_flow,
   joining_unit,
   looping,
-  looping_draft,
+  looping_flow,
 };
 ghost use Rattle.c_meaning.specs.WalkExamples.{
-  called_draft,
-  calling_draft,
+  called_flow,
+  calling_flow,
   calling_walk,
   racing_walk,
   racing_thread_walk,
@@ -113,11 +113,11 @@ pub fn runs_by_hand()
 /// Graphs worked out by hand: the temporaries, the places of the nodes, and the edges in order
 /// with the silent ones among them.
 pub fn graphs_by_hand()
-    ensures counting { draft_of counting ≡ counting_draft }
-    ensures two_reads { draft_of doubling ≡ doubling_draft }
-    ensures and_with_input { draft_of joining ≡ joining_draft }
-    ensures bare_for_and_do { draft_of looping ≡ looping_draft }
-    ensures call_in_expression { draft_of calling_main ≡ calling_draft }
+    ensures counting { flow_of counting ≡ counting_flow }
+    ensures two_reads { flow_of doubling ≡ doubling_flow }
+    ensures and_with_input { flow_of joining ≡ joining_flow }
+    ensures bare_for_and_do { flow_of looping ≡ looping_flow }
+    ensures call_in_expression { flow_of calling_main ≡ calling_flow }
 {}
 
 /// Walks worked out by hand: those of two threads, one over the silent edges of an `&&`, and one
