@@ -1,81 +1,126 @@
--- The interval of an expression in a state. The forms that the analysis doesn't take yet have no
--- value here.
-use Rattle.std.specs.Prelude.{List, Option, Some, None, slice_get}
+-- The analysis' reading of an expression: its interval in a state, and what a state becomes where
+-- the expression is to be true or false. Both are one fold, since a guard evaluates parts in the
+-- states that come in there.
+--
+-- A reader should check: that each level of a guard is Bottom where its own evaluation in the state
+-- that comes in has no value or surely the other truth; that the right operand of a comparison is
+-- refined by the left one's new interval; and which two states `&&` and `||` join.
+use Rattle.std.specs.Prelude.{ℕ, Bool, true, false, not, List, Option, Some, None, slice_get, slice_set, length, option_map, option_and_then, if◌then◌else◌}
 use Rattle.gob_tree.specs.declared.expr.BinOp.{BinOp}
 use Rattle.gob_tree.specs.declared.expr.BinOp.TheVariants.{Add, Sub, Mul, Div, Rem, Lt, Le, Gt, Ge, Eq, Ne, And, Or}
+use Rattle.gob_tree.specs.declared.expr.UnOp.TheVariants.{Neg, Not}
 use Rattle.gob_tree.specs.declared.expr.Expr.{Expr}
 use Rattle.gob_tree.specs.declared.expr.Expr.TheOpen.{Expr-F}
 use Rattle.gob_tree.specs.declared.expr.Expr.TheFolds.{fold-Expr}
 use Rattle.gob_tree.specs.declared.expr.Width.{Width}
-use Rattle.gob_tree.specs.declared.expr.Width.TheVariants.{W32, W64}
 use Rattle.gob_tree.specs.declared.unit.Slot.{Slot}
-use Rattle.interval_dom.specs.declared.width.Width.{Width as IntervalWidth}
-use Rattle.interval_dom.specs.declared.width.Width.TheVariants.{W32 as Bits32, W64 as Bits64}
+use Rattle.interval_dom.specs.declared.cmp.Cmp.{Cmp}
+use Rattle.interval_dom.specs.declared.cmp.Cmp.TheVariants.{Lt as Less, Le as AtMost, Gt as Greater, Ge as AtLeast, Eq as Equal, Ne as Unequal}
 use Rattle.interval_dom.specs.Bounds.{Bounds, between}
-use Rattle.interval_dom.specs.Ranges.{fitted, sums}
+use Rattle.interval_dom.specs.Comparisons.{opposite_of, turned_of, refined}
+use Rattle.c_meaning.specs.Demand.{slot_width, unary_width, binary_width, wider}
+use Rattle.state_dom.specs.Operators.{zero_alone, may_be, unary_interval, binary_interval}
+use Rattle.state_dom.specs.StateValue.{StateValue, Bottom, Reached, join_of}
 
--- an expression's width, and its interval where it has a value
-pub record Valued : Type 0 where
+-- Of an expression among a function's slots: the local that it is, if it is one; its width; its
+-- interval by those of the slots, where it has a value; and the state in which it has a truth.
+pub record Reading : Type 0 where
+  pub local : Option ℕ
   pub width : Width
-  pub value : Option Bounds
+  pub interval : List Bounds → Option Bounds
+  pub guarded : Bool → StateValue → StateValue
 
-abbrev pub interval_width_of : Width → IntervalWidth
-interval_width_of W32 = Bits32
-interval_width_of W64 = Bits64
+-- ---- evaluation
 
--- an interval as it goes to a place of this width: itself where it lies in the width's range, else
--- the whole range
-abbrev pub converted_to : Width → Bounds → Bounds
-converted_to w v = fitted (interval_width_of w) v
+abbrev pub local_step : Expr-F Reading → Option ℕ
+local_step (Expr-F.Local x) = Some x
+local_step other = None
 
--- the width of an operator on numbers: the wider of its operands'
-abbrev pub wider : Width → Width → Width
-wider W32 w = w
-wider W64 w = W64
+abbrev pub width_step : List Slot → Expr-F Reading → Width
+width_step slots (Expr-F.Number n w) = w
+width_step slots (Expr-F.Local x) = slot_width slots x
+width_step slots (Expr-F.Global g w) = w
+width_step slots (Expr-F.Nondet w) = w
+width_step slots (Expr-F.Unary op a) = unary_width op a.width
+width_step slots (Expr-F.Binary op a b) = binary_width op a.width b.width
+width_step slots (Expr-F.Call f w args) = w
 
-abbrev pub width_at : Option Slot → Width
-width_at None = W32
-width_at (Some slot) = slot.width
+-- globals, arbitrary numbers and calls stand in no expression of an edge, and have no value here
+abbrev pub interval_step : Expr-F Reading → List Bounds → Option Bounds
+interval_step (Expr-F.Number n w) xs = Some (between n n)
+interval_step (Expr-F.Local x) xs = slice_get xs x
+interval_step (Expr-F.Global g w) xs = None
+interval_step (Expr-F.Nondet w) xs = None
+interval_step (Expr-F.Unary op a) xs = option_map (unary_interval op a.width) (a.interval xs)
+interval_step (Expr-F.Binary op a b) xs = binary_interval op (wider a.width b.width) (a.interval xs) (b.interval xs)
+interval_step (Expr-F.Call f w args) xs = None
 
--- what an operator makes of two intervals, where both have a value
-abbrev pub on_both : (Bounds → Bounds → Bounds) → Option Bounds → Option Bounds → Option Bounds
-on_both f None b = None
-on_both f (Some a) None = None
-on_both f (Some a) (Some b) = Some (f a b)
+-- ---- guards
 
-abbrev pub valued_sum : Valued → Valued → Valued
-valued_sum a b =
-    let w = wider a.width b.width in
-    record { width = w; value = on_both (λ x y. converted_to w (sums x y)) a.value b.value }
+-- what is left of a slot's interval goes back into the slot
+abbrev pub with_left : List Bounds → ℕ → ℕ → Option Bounds → StateValue
+with_left xs locks x None = Bottom (length xs)
+with_left xs locks x (Some v) = Reached (slice_set xs x v) locks
 
-abbrev pub no_value : Valued
-no_value = record { width = W32; value = None }
+-- an operand that is a local, where it stands in the comparison with a number of the other interval
+abbrev pub refined_by : Cmp → Option ℕ → (List Bounds → Option Bounds) → StateValue → StateValue
+refined_by op local other (Bottom room) = Bottom room
+refined_by op None other (Reached xs locks) = Reached xs locks
+refined_by op (Some x) other (Reached xs locks) =
+    with_left xs locks x (option_and_then (λ v. option_and_then (refined op v) (other xs)) (slice_get xs x))
 
-abbrev pub valued_binary : BinOp → Valued → Valued → Valued
-valued_binary Add a b = valued_sum a b
-valued_binary Sub a b = no_value
-valued_binary Mul a b = no_value
-valued_binary Div a b = no_value
-valued_binary Rem a b = no_value
-valued_binary Lt a b = no_value
-valued_binary Le a b = no_value
-valued_binary Gt a b = no_value
-valued_binary Ge a b = no_value
-valued_binary Eq a b = no_value
-valued_binary Ne a b = no_value
-valued_binary And a b = no_value
-valued_binary Or a b = no_value
+-- the left operand by the right one's interval, then the right one by the left one's new interval
+abbrev pub compared : Cmp → Reading → Reading → StateValue → StateValue
+compared op a b s = refined_by (turned_of op) b.local a.interval (refined_by op a.local b.interval s)
 
--- One node of an expression, with the answer for each child in its place.
-abbrev pub valued_step : List Slot → List Bounds → Expr-F Valued → Valued
-valued_step slots state (Expr-F.Number n w) = record { width = w; value = Some (between n n) }
-valued_step slots state (Expr-F.Local x) = record { width = width_at (slice_get slots x); value = slice_get state x }
-valued_step slots state (Expr-F.Global g w) = no_value
-valued_step slots state (Expr-F.Nondet w) = no_value
-valued_step slots state (Expr-F.Unary op a) = no_value
-valued_step slots state (Expr-F.Binary op a b) = valued_binary op a b
-valued_step slots state (Expr-F.Call f w args) = no_value
+-- the comparison, or where it is unwanted its opposite
+abbrev pub as_wanted : Bool → Cmp → Cmp
+as_wanted true op = op
+as_wanted false op = opposite_of op
 
--- the width and the interval of an expression
-abbrev pub valued : List Slot → List Bounds → Expr → Valued
-valued slots state = fold-Expr Valued (valued_step slots state)
+abbrev pub guarded_binary : BinOp → Reading → Reading → Bool → StateValue → StateValue
+guarded_binary Lt a b wanted s = compared (as_wanted wanted Less) a b s
+guarded_binary Le a b wanted s = compared (as_wanted wanted AtMost) a b s
+guarded_binary Gt a b wanted s = compared (as_wanted wanted Greater) a b s
+guarded_binary Ge a b wanted s = compared (as_wanted wanted AtLeast) a b s
+guarded_binary Eq a b wanted s = compared (as_wanted wanted Equal) a b s
+guarded_binary Ne a b wanted s = compared (as_wanted wanted Unequal) a b s
+guarded_binary And a b true s = b.guarded true (a.guarded true s)
+guarded_binary And a b false s = join_of (a.guarded false s) (b.guarded false (a.guarded true s))
+guarded_binary Or a b true s = join_of (a.guarded true s) (b.guarded true (a.guarded false s))
+guarded_binary Or a b false s = b.guarded false (a.guarded false s)
+guarded_binary op a b wanted s = s
+
+-- by the form of the expression
+abbrev pub guarded_form : Expr-F Reading → Bool → StateValue → StateValue
+guarded_form (Expr-F.Local x) wanted s = refined_by (as_wanted wanted Unequal) (Some x) (λ xs. Some zero_alone) s
+guarded_form (Expr-F.Unary Not a) wanted s = a.guarded (not wanted) s
+guarded_form (Expr-F.Binary op a b) wanted s = guarded_binary op a b wanted s
+guarded_form other wanted s = s
+
+-- a state at which the expression may have the wanted truth, refined by its form; else Bottom
+abbrev pub guarded_step : Expr-F Reading → Bool → StateValue → StateValue
+guarded_step e wanted (Bottom room) = Bottom room
+guarded_step e wanted (Reached xs locks) =
+    if may_be wanted (interval_step e xs) then guarded_form e wanted (Reached xs locks) else Bottom (length xs)
+
+-- ---- expressions
+
+abbrev pub reading_step : List Slot → Expr-F Reading → Reading
+reading_step slots e = record {
+  local = local_step e;
+  width = width_step slots e;
+  interval = interval_step e;
+  guarded = guarded_step e;
+}
+
+abbrev pub reading_of : List Slot → Expr → Reading
+reading_of slots = fold-Expr Reading (reading_step slots)
+
+-- the interval of an expression by those of the slots, where it has a value
+abbrev pub interval_of : List Slot → List Bounds → Expr → Option Bounds
+interval_of slots xs e = (reading_of slots e).interval xs
+
+-- what a state becomes where the expression has the wanted truth
+abbrev pub guarded_by : List Slot → Expr → Bool → StateValue → StateValue
+guarded_by slots e wanted s = (reading_of slots e).guarded wanted s

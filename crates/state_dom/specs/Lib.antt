@@ -1,3 +1,4 @@
 pub mod Evaluation
+pub mod Operators
 pub mod StateValue
 pub mod ThresholdValues

@@ -1,8 +1,14 @@
--- What contracts see of a state, what it describes, and the order and join of states.
-use Rattle.std.specs.Prelude.{ℕ, ℤ, pos, List, [], ◌∷◌, Bool, true, false, length, replicate}
+-- What contracts see of a state, its shape, what it describes, and the order and join of states.
+--
+-- A reader should check: what a state describes, that nothing is described by Bottom, and which end
+-- or set is the wider one in the order.
+use Rattle.std.specs.Prelude.{◌≡◌, ℕ, ℤ, pos, List, [], ◌∷◌, Bool, true, false, IsTrue, Option, Some, None, length, replicate, slice_index_or}
+use Rattle.gob_tree.specs.Widths.{fits}
+use Rattle.gob_tree.specs.declared.unit.Slot.{Slot}
 use Rattle.interval_dom.specs.Bounds.{Bounds, between, Describes, Covers, hull}
 use Rattle.interval_dom.specs.Marks.{widened}
-use Rattle.lockset_dom.specs.Members.{Includes, no_locks, shared_members}
+use Rattle.lockset_dom.specs.Members.{Holds, Includes, no_locks, shared_members}
+use Rattle.state_dom.specs.Operators.{full_of}
 
 -- a point that no run reaches, which keeps the room of its slots; or an interval for each slot,
 -- and the mutexes that are surely held
@@ -36,6 +42,29 @@ is_reached (Reached slots locks) = true
 abbrev pub start_of : ℕ → StateValue
 start_of room = Reached (replicate room (between (pos 0) (pos 0))) no_locks
 
+-- ---- shape
+
+-- each slot's interval lies in the range of the slot's width
+abbrev pub FitsEach : List Slot → List Bounds → Type 0
+FitsEach [] [] = Unit {0}
+FitsEach [] (x ∷ xs) = ⊥
+FitsEach (slot ∷ slots) [] = ⊥
+FitsEach (slot ∷ slots) (x ∷ xs) = Covers (full_of slot.width) x × FitsEach slots xs
+
+-- a state has room for the slots and, where it isn't Bottom, an interval in the width of each
+abbrev pub HasShape : List Slot → StateValue → Type 0
+HasShape slots (Bottom room) = room ≡ length slots
+HasShape slots (Reached xs locks) = FitsEach slots xs
+
+-- ---- what a state describes
+
+-- each slot holds a number of its width
+abbrev pub HoldsEach : List Slot → List ℤ → Type 0
+HoldsEach [] [] = Unit {0}
+HoldsEach [] (n ∷ ns) = ⊥
+HoldsEach (slot ∷ slots) [] = ⊥
+HoldsEach (slot ∷ slots) (n ∷ ns) = IsTrue (fits slot.width n) × HoldsEach slots ns
+
 -- each number is in the interval of its place
 abbrev pub DescribesEach : List Bounds → List ℤ → Type 0
 DescribesEach [] [] = Unit {0}
@@ -43,10 +72,18 @@ DescribesEach [] (n ∷ ns) = ⊥
 DescribesEach (x ∷ xs) [] = ⊥
 DescribesEach (x ∷ xs) (n ∷ ns) = Describes x n × DescribesEach xs ns
 
--- the state describes these numbers in the slots, and these owned mutexes
-abbrev pub DescribesState : StateValue → List ℤ → ℕ → Type 0
-DescribesState (Bottom room) numbers owned = ⊥
-DescribesState (Reached slots locks) numbers owned = DescribesEach slots numbers × Includes owned locks
+-- each mutex of the set is one that the thread owns
+abbrev pub OwnsEach : List (Option ℕ) → ℕ → ℕ → Type 0
+OwnsEach owners thread locks = (m : ℕ) → Holds locks m → slice_index_or owners m None ≡ Some thread
+
+-- The state isn't Bottom; each slot holds a number of its width that is in its interval; and the
+-- thread owns each mutex of the lock set, among the owners of all mutexes.
+abbrev pub DescribesState : List Slot → StateValue → List ℤ → List (Option ℕ) → ℕ → Type 0
+DescribesState slots (Bottom room) values owners thread = ⊥
+DescribesState slots (Reached xs locks) values owners thread =
+    HoldsEach slots values × DescribesEach xs values × OwnsEach owners thread locks
+
+-- ---- order
 
 -- the interval of each place is inside that of the outer list
 abbrev pub CoversEach : List Bounds → List Bounds → Type 0

@@ -3,9 +3,11 @@
 #![tactic(auto)]
 
 mod evaluation;
+mod operators;
 mod state;
 mod thresholds;
 
-pub use evaluation::{assign, converted, eval, interval_width, slot_width};
+pub use evaluation::{assign, eval, slot_width};
+pub use operators::{binary_interval, converted, interval_width, may_be, unary_interval};
 pub use state::State;
 pub use thresholds::Thresholds;
