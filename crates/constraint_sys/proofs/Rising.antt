@@ -4,7 +4,7 @@ use Rattle.std.specs.Prelude.{Contains, IsSome}
 use Rattle.gob_tree.specs.Built.{HasBuiltActions}
 use Rattle.gob_tree.specs.declared.graph.Program.{Program}
 use Rattle.gob_tree.specs.declared.unit.Slot.{Slot}
-use Rattle.state_dom.specs.StateValue.{StateValue, Bottom, Reached, CoversState, raised_by}
+use Rattle.state_dom.specs.StateValue.{StateValue, Bottom, Reached, CoversState, raised_by, HasShape}
 use Rattle.state_dom.specs.ThresholdValues.{thresholds_of}
 use Rattle.state_dom.proofs.Bounding.{raised_by-covered}
 use Rattle.state_dom.proofs.Deciding.{cases_CoversState}
@@ -15,7 +15,6 @@ use Rattle.constraint_sys.specs.declared.value.Effect.{Effect}
 use Rattle.constraint_sys.specs.declared.value.Value.{Value}
 use Rattle.constraint_sys.specs.declared.value.Value.TheVariants.{State}
 use Rattle.constraint_sys.specs.Contribution.{contribution_of, read_by}
-use Rattle.constraint_sys.specs.Sound.{HasShape}
 use Rattle.constraint_sys.specs.Table.{TableValue, value_at, with_value, IsThere, shown}
 use Rattle.constraint_sys.specs.Turn.{Solving, IsDirtyAfter, IsBrought, Rose, table_after, raised_in, raised_in_each, raised_entry}
 use Rattle.constraint_sys.proofs.Entries.{value_at-set, value_at-other, cases_unknown}

@@ -1,6 +1,6 @@
 -- States that keep the shape of a function's slots.
 use Rattle.std.proofs.Common.{◌≡◌, ℕ, zero, suc, ℤ, List, [], ◌∷◌, ◌++◌, Option, None, Some, refl, ap, arith}
-use Rattle.std.specs.Prelude.{length, slice_get, slice_set, if◌then◌else◌}
+use Rattle.std.specs.Prelude.{length, slice_set, if◌then◌else◌}
 use Rattle.std.specs.List.{flat_map}
 use Rattle.std.proofs.lemmas.List.Elements.{Contains-append_left, Contains-append_right}
 use Rattle.gob_tree.specs.Widths.{lowest, greatest}
@@ -17,8 +17,10 @@ use Rattle.interval_dom.specs.declared.width.Width.{Width}
 use Rattle.interval_dom.specs.declared.width.Width.TheVariants.{W32, W64}
 use Rattle.interval_dom.proofs.Within.{HasEnds, Covers-wide, fitted-within, hull-within, widened-within, widened-bounds}
 use Rattle.lockset_dom.proofs.Membership.{Holds-shared_members}
-use Rattle.state_dom.specs.Evaluation.{valued, converted_to, interval_width_of, width_at}
-use Rattle.state_dom.specs.StateValue.{StateValue, Bottom, Reached, room_of, CoversEach, CoversState, on_each, join_of, raised_by}
+use Rattle.c_meaning.specs.Demand.{slot_width}
+use Rattle.state_dom.specs.Evaluation.{interval_of}
+use Rattle.state_dom.specs.Operators.{converted_to, interval_width_of}
+use Rattle.state_dom.specs.StateValue.{StateValue, Bottom, Reached, room_of, CoversEach, CoversState, on_each, join_of, raised_by, FitsEach, HasShape}
 use Rattle.state_dom.specs.ThresholdValues.{thresholds_of, neighbours, numbers_of_program, widest, has_wide, ends_of_type}
 use Rattle.state_dom.proofs.Bounding.{CoversState-refl}
 use Rattle.constraint_sys.specs.declared.unknown.Key.{Key}
@@ -26,7 +28,7 @@ use Rattle.constraint_sys.specs.declared.unknown.Unknown.TheVariants.{Point}
 use Rattle.constraint_sys.specs.declared.value.Value.{Value}
 use Rattle.constraint_sys.specs.declared.value.Value.TheVariants.{State, Number}
 use Rattle.constraint_sys.specs.Contribution.{edges_into, outcome_of, joined, contribution_of}
-use Rattle.constraint_sys.specs.Sound.{FitsEach, HasShape, IsShaped}
+use Rattle.constraint_sys.specs.Sound.{IsShaped}
 use Rattle.constraint_sys.specs.Table.{TableValue, value_at, slots_at, state_at, shown, shown_state}
 use Rattle.constraint_sys.specs.Transfer.{assigned, outcome_in, transfer}
 
@@ -42,7 +44,7 @@ room_of-shaped slots (Bottom room) shaped = shaped
 room_of-shaped slots (Reached xs locks) shaped = length-fitted slots xs shaped
 
 -- an interval that fits its slot may be set there
-pub FitsEach-set : (slots : List Slot) (xs : List Bounds) (i : ℕ) (v : Bounds) → FitsEach slots xs → Covers (full (interval_width_of (width_at (slice_get slots i)))) v → FitsEach slots (slice_set xs i v)
+pub FitsEach-set : (slots : List Slot) (xs : List Bounds) (i : ℕ) (v : Bounds) → FitsEach slots xs → Covers (full (interval_width_of (slot_width slots i))) v → FitsEach slots (slice_set xs i v)
 FitsEach-set [] [] i v each fits = tt
 FitsEach-set [] (x ∷ xs) i v each fits = absurd each
 FitsEach-set (slot ∷ slots) [] i v each fits = absurd each
@@ -114,15 +116,15 @@ HasShape-state_at p t f key node shaped = shown_state-shaped p t f key node (val
 assigned-shaped : (slots : List Slot) (state : List Bounds) (locks x : ℕ) (v : Option Bounds) → FitsEach slots state → HasShape slots (assigned slots state locks x v)
 assigned-shaped slots state locks x None fits = length-fitted slots state fits
 assigned-shaped slots state locks x (Some v) fits =
-    let w = width_at (slice_get slots x) in
+    let w = slot_width slots x in
     FitsEach-set slots state x (converted_to w v) fits (fitted-within (interval_width_of w) v)
 
 outcome_in-shaped : (slots : List Slot) (state : List Bounds) (locks : ℕ) (act : Action) → FitsEach slots state → HasShape slots (outcome_in slots state locks act).value
-outcome_in-shaped slots state locks (Assign x e) fits = assigned-shaped slots state locks x (valued slots state e).value fits
+outcome_in-shaped slots state locks (Assign x e) fits = assigned-shaped slots state locks x (interval_of slots state e) fits
 outcome_in-shaped slots state locks (Read x g) fits = length-fitted slots state fits
 outcome_in-shaped slots state locks (Write g e) fits = length-fitted slots state fits
 outcome_in-shaped slots state locks (Nondet x) fits =
-    let w = interval_width_of (width_at (slice_get slots x)) in
+    let w = interval_width_of (slot_width slots x) in
     assigned-shaped slots state locks x (Some (full w)) fits
 outcome_in-shaped slots state locks (Guard e wanted) fits = length-fitted slots state fits
 outcome_in-shaped slots state locks (Assert e) fits = length-fitted slots state fits

@@ -16,8 +16,8 @@ use Rattle.gob_tree.specs.declared.unit.Slot.{Slot}
 use Rattle.interval_dom.specs.Bounds.{between, Covers}
 use Rattle.interval_dom.specs.Ranges.{full}
 use Rattle.interval_dom.proofs.Within.{Covers-refl}
-use Rattle.state_dom.specs.Evaluation.{interval_width_of}
-use Rattle.state_dom.specs.StateValue.{Bottom, start_of}
+use Rattle.state_dom.specs.Operators.{interval_width_of}
+use Rattle.state_dom.specs.StateValue.{Bottom, start_of, FitsEach}
 use Rattle.state_dom.proofs.Bounding.{CoversState-refl}
 use Rattle.constraint_sys.specs.declared.unknown.Key.{Key}
 use Rattle.constraint_sys.specs.declared.unknown.Unknown.{Unknown}
@@ -25,7 +25,7 @@ use Rattle.constraint_sys.specs.declared.unknown.Unknown.TheVariants.{Point, Glo
 use Rattle.constraint_sys.specs.declared.value.Value.{Value}
 use Rattle.constraint_sys.specs.declared.value.Value.TheVariants.{State}
 use Rattle.constraint_sys.specs.PostSolution.{CoversValue, HasRoots, main_start_value, initial_value}
-use Rattle.constraint_sys.specs.Sound.{FitsEach, IsShaped, IsShapedEntry, CanTurn, IsSound}
+use Rattle.constraint_sys.specs.Sound.{IsShaped, IsShapedEntry, CanTurn, IsSound}
 use Rattle.constraint_sys.specs.Table.{TableValue, value_at, IsThere, main_start, empty_key, slots_at, nodes_at, nodes_of_function}
 use Rattle.constraint_sys.specs.Turn.{numbers_from, bottom_nodes, initial_globals, initial_table, initial_dirty, initial_of}
 use Rattle.constraint_sys.proofs.Entries.{global_apart, AllEntries, AllEntries-append, value_at-all, value_at-head, value_at-past, IsThere-cons, IsThere-append_left, there_value}

@@ -3,7 +3,7 @@ use Rattle.std.proofs.Common.{◌≡◌, ◌≢◌, ℕ, zero, suc, Option, None
 use Rattle.std.specs.Prelude.{Contains, IsSome}
 use Rattle.gob_tree.specs.Built.{HasBuiltActions}
 use Rattle.gob_tree.specs.declared.graph.Program.{Program}
-use Rattle.state_dom.specs.StateValue.{StateValue, Bottom, CoversState, raised_by}
+use Rattle.state_dom.specs.StateValue.{StateValue, Bottom, CoversState, raised_by, HasShape}
 use Rattle.state_dom.specs.ThresholdValues.{thresholds_of}
 use Rattle.constraint_sys.specs.declared.unknown.Key.{Key}
 use Rattle.constraint_sys.specs.declared.unknown.Unknown.{Unknown}
@@ -12,7 +12,7 @@ use Rattle.constraint_sys.specs.declared.value.Value.{Value}
 use Rattle.constraint_sys.specs.declared.value.Value.TheVariants.{State, Number}
 use Rattle.constraint_sys.specs.Contribution.{contribution_of, read_by}
 use Rattle.constraint_sys.specs.PostSolution.{CoversValue, BoundsAt, HasRoots, IsSatisfied, main_start_value, initial_value}
-use Rattle.constraint_sys.specs.Sound.{HasShape, IsShaped, IsShapedEntry, CanTurn, IsSound}
+use Rattle.constraint_sys.specs.Sound.{IsShaped, IsShapedEntry, CanTurn, IsSound}
 use Rattle.constraint_sys.specs.Table.{TableValue, value_at, IsThere, main_start, shown, slots_at}
 use Rattle.constraint_sys.specs.Turn.{Solving, Turns, ReadsRisen}
 use Rattle.constraint_sys.proofs.Entries.{global_apart, cases_unknown}

@@ -5,8 +5,8 @@ use Rattle.gob_tree.specs.declared.unit.GlobalDecl.{GlobalDecl}
 use Rattle.gob_tree.specs.declared.unit.Slot.{Slot}
 use Rattle.interval_dom.specs.Bounds.{Bounds, Covers}
 use Rattle.interval_dom.specs.Ranges.{full}
-use Rattle.state_dom.specs.Evaluation.{interval_width_of}
-use Rattle.state_dom.specs.StateValue.{StateValue, Bottom, Reached}
+use Rattle.state_dom.specs.Operators.{interval_width_of}
+use Rattle.state_dom.specs.StateValue.{StateValue, Bottom, Reached, HasShape}
 use Rattle.constraint_sys.specs.declared.unknown.Key.{Key}
 use Rattle.constraint_sys.specs.declared.unknown.Unknown.{Unknown}
 use Rattle.constraint_sys.specs.declared.unknown.Unknown.TheVariants.{Point, Global}
@@ -15,18 +15,6 @@ use Rattle.constraint_sys.specs.declared.value.Value.TheVariants.{State, Number}
 use Rattle.constraint_sys.specs.Table.{TableValue, value_at, IsThere, nodes_at, slots_at}
 use Rattle.constraint_sys.specs.PostSolution.{HasRoots, IsSatisfied}
 use Rattle.constraint_sys.specs.Turn.{Solving}
-
--- each slot's interval lies in the range of the slot's width
-abbrev pub FitsEach : List Slot → List Bounds → Type 0
-FitsEach [] [] = Unit {0}
-FitsEach [] (x ∷ xs) = ⊥
-FitsEach (slot ∷ slots) [] = ⊥
-FitsEach (slot ∷ slots) (x ∷ xs) = Covers (full (interval_width_of slot.width)) x × FitsEach slots xs
-
--- a state has room for the slots and, where it isn't Bottom, an interval in the width of each
-abbrev pub HasShape : List Slot → StateValue → Type 0
-HasShape slots (Bottom room) = room ≡ length slots
-HasShape slots (Reached state locks) = FitsEach slots state
 
 -- a point of the program has a state of its function's shape, and a global an interval in its width
 abbrev pub IsShapedEntry : Program → Unknown → Value → Type 0

@@ -5,7 +5,7 @@
 -- A reader should check: that each level of a guard is Bottom where its own evaluation in the state
 -- that comes in has no value or surely the other truth; that the right operand of a comparison is
 -- refined by the left one's new interval; and which two states `&&` and `||` join.
-use Rattle.std.specs.Prelude.{ℕ, Bool, true, false, not, List, Option, Some, None, slice_get, slice_set, length, option_map, option_and_then, if◌then◌else◌}
+use Rattle.std.specs.Prelude.{ℕ, Bool, true, false, not, List, Option, Some, None, slice_get, slice_set, option_map, option_and_then, if◌then◌else◌}
 use Rattle.gob_tree.specs.declared.expr.BinOp.{BinOp}
 use Rattle.gob_tree.specs.declared.expr.BinOp.TheVariants.{Add, Sub, Mul, Div, Rem, Lt, Le, Gt, Ge, Eq, Ne, And, Or}
 use Rattle.gob_tree.specs.declared.expr.UnOp.TheVariants.{Neg, Not}
@@ -20,7 +20,7 @@ use Rattle.interval_dom.specs.Bounds.{Bounds, between}
 use Rattle.interval_dom.specs.Comparisons.{opposite_of, turned_of, refined}
 use Rattle.c_meaning.specs.Demand.{slot_width, unary_width, binary_width, wider}
 use Rattle.state_dom.specs.Operators.{zero_alone, may_be, unary_interval, binary_interval}
-use Rattle.state_dom.specs.StateValue.{StateValue, Bottom, Reached, join_of}
+use Rattle.state_dom.specs.StateValue.{StateValue, Bottom, Reached, room_of, slots_of, locks_of, join_of}
 
 -- Of an expression among a function's slots: the local that it is, if it is one; its width; its
 -- interval by those of the slots, where it has a value; and the state in which it has a truth.
@@ -57,52 +57,60 @@ interval_step (Expr-F.Call f w args) xs = None
 
 -- ---- guards
 
--- what is left of a slot's interval goes back into the slot
-abbrev pub with_left : List Bounds → ℕ → ℕ → Option Bounds → StateValue
-with_left xs locks x None = Bottom (length xs)
-with_left xs locks x (Some v) = Reached (slice_set xs x v) locks
+-- an expression's interval in a state; from Bottom there is none
+abbrev pub value_in : (List Bounds → Option Bounds) → StateValue → Option Bounds
+value_in interval (Bottom room) = None
+value_in interval (Reached xs locks) = interval xs
 
--- an operand that is a local, where it stands in the comparison with a number of the other interval
-abbrev pub refined_by : Cmp → Option ℕ → (List Bounds → Option Bounds) → StateValue → StateValue
-refined_by op local other (Bottom room) = Bottom room
-refined_by op None other (Reached xs locks) = Reached xs locks
-refined_by op (Some x) other (Reached xs locks) =
-    with_left xs locks x (option_and_then (λ v. option_and_then (refined op v) (other xs)) (slice_get xs x))
+-- what is left of a slot's interval goes back into the slot
+abbrev pub with_left : StateValue → ℕ → Option Bounds → StateValue
+with_left s x None = Bottom (room_of s)
+with_left s x (Some v) = Reached (slice_set (slots_of s) x v) (locks_of s)
+
+-- an operand that is a local, where it stands in the comparison with a number of the other one
+abbrev pub refined_by : Cmp → Option ℕ → Option Bounds → StateValue → StateValue
+refined_by op None other s = s
+refined_by op (Some x) other s =
+    with_left s x (option_and_then (λ v. option_and_then (refined op v) other) (slice_get (slots_of s) x))
 
 -- the left operand by the right one's interval, then the right one by the left one's new interval
 abbrev pub compared : Cmp → Reading → Reading → StateValue → StateValue
-compared op a b s = refined_by (turned_of op) b.local a.interval (refined_by op a.local b.interval s)
+compared op a b s =
+    let first = refined_by op a.local (value_in b.interval s) s in
+    refined_by (turned_of op) b.local (value_in a.interval first) first
 
 -- the comparison, or where it is unwanted its opposite
 abbrev pub as_wanted : Bool → Cmp → Cmp
 as_wanted true op = op
 as_wanted false op = opposite_of op
 
+abbrev pub compared_by : BinOp → Reading → Reading → Bool → StateValue → StateValue
+compared_by Lt a b wanted s = compared (as_wanted wanted Less) a b s
+compared_by Le a b wanted s = compared (as_wanted wanted AtMost) a b s
+compared_by Gt a b wanted s = compared (as_wanted wanted Greater) a b s
+compared_by Ge a b wanted s = compared (as_wanted wanted AtLeast) a b s
+compared_by Eq a b wanted s = compared (as_wanted wanted Equal) a b s
+compared_by Ne a b wanted s = compared (as_wanted wanted Unequal) a b s
+compared_by op a b wanted s = s
+
 abbrev pub guarded_binary : BinOp → Reading → Reading → Bool → StateValue → StateValue
-guarded_binary Lt a b wanted s = compared (as_wanted wanted Less) a b s
-guarded_binary Le a b wanted s = compared (as_wanted wanted AtMost) a b s
-guarded_binary Gt a b wanted s = compared (as_wanted wanted Greater) a b s
-guarded_binary Ge a b wanted s = compared (as_wanted wanted AtLeast) a b s
-guarded_binary Eq a b wanted s = compared (as_wanted wanted Equal) a b s
-guarded_binary Ne a b wanted s = compared (as_wanted wanted Unequal) a b s
 guarded_binary And a b true s = b.guarded true (a.guarded true s)
 guarded_binary And a b false s = join_of (a.guarded false s) (b.guarded false (a.guarded true s))
 guarded_binary Or a b true s = join_of (a.guarded true s) (b.guarded true (a.guarded false s))
 guarded_binary Or a b false s = b.guarded false (a.guarded false s)
-guarded_binary op a b wanted s = s
+guarded_binary op a b wanted s = compared_by op a b wanted s
 
 -- by the form of the expression
 abbrev pub guarded_form : Expr-F Reading → Bool → StateValue → StateValue
-guarded_form (Expr-F.Local x) wanted s = refined_by (as_wanted wanted Unequal) (Some x) (λ xs. Some zero_alone) s
+guarded_form (Expr-F.Local x) wanted s = refined_by (as_wanted wanted Unequal) (Some x) (Some zero_alone) s
 guarded_form (Expr-F.Unary Not a) wanted s = a.guarded (not wanted) s
 guarded_form (Expr-F.Binary op a b) wanted s = guarded_binary op a b wanted s
 guarded_form other wanted s = s
 
 -- a state at which the expression may have the wanted truth, refined by its form; else Bottom
 abbrev pub guarded_step : Expr-F Reading → Bool → StateValue → StateValue
-guarded_step e wanted (Bottom room) = Bottom room
-guarded_step e wanted (Reached xs locks) =
-    if may_be wanted (interval_step e xs) then guarded_form e wanted (Reached xs locks) else Bottom (length xs)
+guarded_step e wanted s =
+    if may_be wanted (value_in (interval_step e) s) then guarded_form e wanted s else Bottom (room_of s)
 
 -- ---- expressions
 

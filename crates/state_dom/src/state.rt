@@ -157,12 +157,38 @@ impl State {
         true
     }
 
+    /// Gives a state that isn't Bottom other locks.
+    pub fn set_locks(&mut self, locks: Locks)
+        requires { is_reached self.old ≡ true }
+        ensures { self.new ≡ Reached (slots_of self.old) locks }
+    {
+        self.locks = locks;
+    }
+
     pub(crate) fn set_slot(&mut self, i: u16, v: Interval)
         requires reached { is_reached self.old ≡ true }
         requires in_range { i < room_of self.old }
         ensures { self.new ≡ Reached (slice_set (slots_of self.old) i v) (locks_of self.old) }
     {
         self.slots[i as usize] = v;
+    }
+
+    /// Gives this state the other's value.
+    pub(crate) fn set_to(&mut self, other: &State)
+        requires { room_of self.old ≡ room_of other.now }
+        ensures { self.new ≡ other.now }
+    {
+        if other.reached {
+            self.become_reached(other);
+        } else {
+            self.become_bottom();
+        }
+    }
+
+    pub(crate) fn become_bottom(&mut self)
+        ensures { self.new ≡ Bottom (room_of self.old) }
+    {
+        self.reached = false;
     }
 
     fn become_reached(&mut self, other: &State)
