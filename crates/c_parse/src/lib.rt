@@ -3,8 +3,11 @@
 
 mod fault;
 mod raw;
+mod stop;
+mod terminal;
 
 pub use fault::{ExprFault, ParseFault};
 pub use raw::{
     RawExpr, RawHead, RawItem, RawName, RawParam, RawPlaced, RawReturn, RawStmt, RawUnit,
 };
+pub use terminal::{Kind, Terminal};
