@@ -1,10 +1,12 @@
-ghost use Rattle.std.specs.Prelude.{◌≡◌, ◌<◌, ◌≤◌, length, take, None, IfOk, OnOk, OnErr, IfSome, IfNone};
+ghost use Rattle.std.specs.Prelude.{◌≡◌, ◌<◌, ◌≤◌, length, take, None, IfOk, OnOk, OnErr};
 ghost use Rattle.std.specs.Io.KnownBytes.{Appends, Keeps};
+ghost use Rattle.std.proofs.Common.{le_refl, le_trans};
 ghost use Rattle.gob_outside.specs.Count.{Rose};
 
 use crate::failed::Failed;
 use crate::sink::Sink;
-use std::io::{ErrorKind, Write};
+use crate::streams::{flush_counted, write_counted};
+use std::io::Write;
 
 /// A stream of the system as a sink: standard output, or standard error. It counts the writes and
 /// flushes that failed, and tells nothing of what was written.
@@ -29,7 +31,7 @@ impl<W: Write> Sink for StdOut<W> {
 
     ghost write_faults = { λ sink. sink.faults };
 
-    ghost write_step = { λ _ _. Unit {0} };
+    ghost write_step = { λ before after. before.faults ≤ after.faults };
 
     /// Has the stream write a piece, and makes a write that the system interrupted again. A closed
     /// pipe and a full device are `Failed`.
@@ -43,11 +45,7 @@ impl<W: Write> Sink for StdOut<W> {
         ensures failed { OnErr result (Rose self.old.faults self.new.faults) }
         ensures never_falls { self.old.faults ≤ self.new.faults }
     {
-        if let Some(count) = write_some(&mut self.stream, piece) {
-            return Ok(count);
-        }
-        self.faults = self.faults.saturating_add(1);
-        Err(Failed)
+        write_counted(&mut self.stream, piece, &mut self.faults)
     }
 
     fn flush(&mut self) -> Result<(), Failed>
@@ -56,57 +54,19 @@ impl<W: Write> Sink for StdOut<W> {
         ensures failed { OnErr result (Rose self.old.faults self.new.faults) }
         ensures never_falls { self.old.faults ≤ self.new.faults }
     {
-        if flush_some(&mut self.stream) {
-            return Ok(());
-        }
-        self.faults = self.faults.saturating_add(1);
-        Err(Failed)
+        flush_counted(&mut self.stream, &mut self.faults)
     }
 
-    ghost write_stays = { λ _. tt };
+    ghost write_stays = { λ before. le_refl before.faults };
 
-    ghost write_goes_on = { λ _ _ _ _ _. tt };
-}
-
-// How often a call that the system interrupts is made.
-const TRIES: u32 = 1000;
-
-// Writes some of a piece, at least one byte of one that isn't empty; `None` is a failure.
-fn write_some<W: Write>(stream: &mut W, piece: &[u8]) -> Option<usize>
-    ensures within { IfSome result (λ n. n ≤ length piece.now) }
-    ensures moves { IfSome result (λ n. 0 < length piece.now → 0 < n) }
-    ensures wrote { IfSome result (λ n.
-        Appends (W.contents stream.old) (W.contents stream.new) (take n piece.now)) }
-    ensures kept { IfNone result (Keeps (W.contents stream.old) (W.contents stream.new)) }
-{
-    for _ in 0..TRIES {
-        match stream.write(piece) {
-            Ok(count) if count > 0 || piece.is_empty() => return Some(count),
-            Err(error) if error.kind() == ErrorKind::Interrupted => {}
-            _ => return None,
-        }
-    }
-    None
-}
-
-// Whether the stream could be flushed.
-fn flush_some<W: Write>(stream: &mut W) -> bool
-    ensures kept { Keeps (W.contents stream.old) (W.contents stream.new) }
-{
-    for _ in 0..TRIES {
-        match stream.flush() {
-            Ok(()) => return true,
-            Err(error) if error.kind() == ErrorKind::Interrupted => {}
-            Err(_) => return false,
-        }
-    }
-    false
+    ghost write_goes_on = { λ _ _ _ first second. le_trans first second };
 }
 
 #[cfg(test)]
 mod tests {
     use super::*;
     use crate::write::{Short, write_all};
+    use std::io::ErrorKind;
     use std::{fs, io};
 
     // A stream that is interrupted, then takes a byte, and then is closed. It can't be flushed.

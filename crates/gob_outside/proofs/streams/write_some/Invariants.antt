@@ -1,5 +1,5 @@
 use Rattle.std.specs.Io.KnownBytes.{Keeps}
-use Rattle.gob_outside.proofs.std_out.write_some.Given as goal
+use Rattle.gob_outside.proofs.streams.write_some.Given as goal
 
 -- an interrupted write wrote nothing
 abbrev pub invariant-loop : goal.invariant-loop

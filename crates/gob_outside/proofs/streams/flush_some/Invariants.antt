@@ -1,5 +1,5 @@
 use Rattle.std.specs.Io.KnownBytes.{Keeps}
-use Rattle.gob_outside.proofs.std_out.flush_some.Given as goal
+use Rattle.gob_outside.proofs.streams.flush_some.Given as goal
 
 -- a flush writes nothing
 abbrev pub invariant-loop : goal.invariant-loop
