@@ -1,5 +1,4 @@
 mod Noting
 mod Pieces
-mod Reading
 pub mod Rising
 pub mod Steps

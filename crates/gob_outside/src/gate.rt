@@ -17,3 +17,14 @@ impl Gate for OpenGate {
 
     fn replied(&self, _session: u32, _count: u64) {}
 }
+
+#[cfg(test)]
+mod tests {
+    use super::*;
+
+    #[test]
+    fn an_open_gate_returns(_rt: HostRuntime) {
+        OpenGate.taken(1);
+        OpenGate.replied(1, 1);
+    }
+}

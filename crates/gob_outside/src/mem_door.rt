@@ -129,3 +129,68 @@ impl Door for MemDoor {
         self.finished.push_reserved(conn);
     }
 }
+
+#[cfg(test)]
+mod tests {
+    use super::*;
+    use crate::mem_sink::MemSink;
+    use crate::mem_source::MemSource;
+    use crate::sink::Sink;
+    use crate::source::Source;
+    use crate::write::write_all;
+
+    // A connection that has these bytes and room for 8.
+    fn connection(alloc: Global, bytes: &[u8]) -> Result<MemConn, Memory> {
+        let source = MemSource::new(Vec::from_slice(alloc, bytes)?, 1, Vec::new(alloc))?;
+        let sink = MemSink::new(alloc, 8, 3, Vec::new(alloc))?;
+        MemConn::new(source, sink)
+    }
+
+    // A door with two connections, of which one call of `next` fails.
+    fn two(alloc: Global, fails: u64) -> Result<MemDoor, Memory> {
+        let mut conns = Vec::new(alloc);
+        conns.push(connection(alloc, b"a")?)?;
+        conns.push(connection(alloc, b"b")?)?;
+        MemDoor::new(alloc, conns, vec![in alloc; fails]?)
+    }
+
+    // Greets a connection by its first byte.
+    fn greet(conn: &mut MemConn) -> Result<(), Failed> {
+        let mut room = [0; 1];
+        conn.read(&mut room)?;
+        conn.flush()?;
+        write_all(conn, &room).map_err(|_| Failed)
+    }
+
+    #[test]
+    fn gives_and_takes_back(rt: HostRuntime) -> Result<(), Memory> {
+        let mut door = two(rt.alloc(), 1)?;
+        assert!(rt; door.next().is_err());
+        for _ in 0..2 {
+            if let Ok(Some(mut conn)) = door.next() {
+                assert_eq!(rt; greet(&mut conn), Ok(()));
+                door.done(conn);
+            }
+        }
+        assert!(rt; door.next().is_ok_and(|conn| conn.is_none()));
+        assert!(rt; door.next().is_ok_and(|conn| conn.is_none()));
+        assert_eq!(rt; (door.out, door.faults, door.ends), (0, 1, 2));
+        assert_eq!(rt; door.finished().len(), 2);
+        for (conn, byte) in door.finished().iter().zip([b'a', b'b']) {
+            assert_eq!(rt; conn.sink().written(), [byte].as_slice());
+        }
+        Ok(())
+    }
+
+    #[test]
+    fn each_next_failing(rt: HostRuntime) -> Result<(), Memory> {
+        for call in [1, 2, 3] {
+            let mut door = two(rt.alloc(), call)?;
+            for made in [1, 2, 3] {
+                assert_eq!(rt; door.next().is_err(), made == call);
+            }
+            assert_eq!(rt; (door.faults, door.ends), (1, 0));
+        }
+        Ok(())
+    }
+}

@@ -126,3 +126,42 @@ impl Source for MemSource {
 
     ghost read_goes_on = { reads_go_on };
 }
+
+#[cfg(test)]
+mod tests {
+    use super::*;
+
+    #[test]
+    fn reads_in_pieces_of_a_byte(rt: HostRuntime) -> Result<(), Memory> {
+        let bytes = Vec::from_slice(rt.alloc(), b"ab")?;
+        let failing = vec![in rt.alloc(); 2]?;
+        let mut source = MemSource::new(bytes, 1, failing)?;
+        let mut room = [0; 4];
+        assert_eq!(rt; source.read(&mut []), Ok(0));
+        assert_eq!(rt; source.read(&mut room), Err(Failed));
+        assert_eq!(rt; source.read(&mut room), Ok(1));
+        assert_eq!(rt; source.read(&mut room[1..]), Ok(1));
+        assert_eq!(rt; source.ends, 0);
+        assert_eq!(rt; source.read(&mut room[2..]), Ok(0));
+        assert_eq!(rt; room, [b'a', b'b', 0, 0]);
+        assert_eq!(rt; (source.faults, source.ends), (1, 1));
+        Ok(())
+    }
+
+    #[test]
+    fn each_read_failing(rt: HostRuntime) -> Result<(), Memory> {
+        for (call, answers) in [
+            (1, [Err(Failed), Ok(2), Ok(1)]),
+            (2, [Ok(2), Err(Failed), Ok(1)]),
+            (3, [Ok(2), Ok(1), Err(Failed)]),
+        ] {
+            let bytes = Vec::from_slice(rt.alloc(), b"xyz")?;
+            let failing = vec![in rt.alloc(); call]?;
+            let mut source = MemSource::new(bytes, 2, failing)?;
+            for answer in answers {
+                assert_eq!(rt; source.read(&mut [0; 4]), answer);
+            }
+        }
+        Ok(())
+    }
+}

@@ -59,7 +59,12 @@ impl<S: Read + Write> Source for TcpConn<S> {
         ensures never_falls { self.old.read_faults ≤ self.new.read_faults }
         ensures step { self.new.write_faults ≡ self.old.write_faults }
     {
-        read_counted(&mut self.stream, into, &mut self.read_faults, &mut self.ends)
+        read_counted(
+            &mut self.stream,
+            into,
+            &mut self.read_faults,
+            &mut self.ends,
+        )
     }
 
     ghost read_stays = { λ _. refl };
@@ -177,5 +182,127 @@ where
         ensures { self.new ≡ record self.old { out = self.old.out - 1 } }
     {
         self.out -= 1;
+    }
+}
+
+#[cfg(test)]
+mod tests {
+    use super::*;
+    use crate::write::write_all;
+    use std::io;
+    use std::net::{TcpListener, TcpStream};
+
+    const PIECE: usize = 16 * 1024;
+
+    // A door at a free port.
+    fn free_door(rt: &HostRuntime) -> (TcpDoor<TcpListener>, SocketAddr) {
+        let door = TcpDoor::bind(rt, 0);
+        let nowhere = SocketAddr::from(([127, 0, 0, 1], 0));
+        let address = match &door.listener {
+            Some(listener) => listener.local_addr().unwrap_or(nowhere),
+            None => nowhere,
+        };
+        (door, address)
+    }
+
+    // Reads until the room is full.
+    fn fill<S: Source>(source: &mut S, room: &mut [u8]) -> bool {
+        let mut at = 0;
+        for _ in 0..u64::MAX {
+            if at >= room.len() {
+                return true;
+            }
+            match source.read(&mut room[at..]) {
+                Ok(count) if count > 0 => at += count,
+                _ => return false,
+            }
+        }
+        false
+    }
+
+    fn may_cross_threads<C: Send>(_it: &C) {}
+
+    #[test]
+    fn a_megabyte_both_ways(rt: HostRuntime) -> io::Result<()> {
+        let (mut door, address) = free_door(&rt);
+        let mut peer = TcpConn::new(rt.connect(address)?);
+        let Ok(Some(mut conn)) = door.next() else {
+            return Err(io::Error::from(io::ErrorKind::NotConnected));
+        };
+        may_cross_threads(&door);
+        may_cross_threads(&conn);
+        let mut room = [0; PIECE];
+        for number in 0..64u8 {
+            let sent = [number; PIECE];
+            assert!(rt; write_all(&mut peer, &sent).is_ok());
+            assert!(rt; fill(&mut conn, &mut room));
+            assert!(rt; room == sent);
+            assert!(rt; write_all(&mut conn, &room).is_ok());
+            assert!(rt; fill(&mut peer, &mut room));
+            assert!(rt; room == sent);
+        }
+        assert_eq!(rt; conn.flush(), Ok(()));
+        assert!(rt; conn.stream.nodelay()?);
+        door.done(conn);
+        assert_eq!(rt; peer.read(&mut room), Ok(0));
+        assert_eq!(rt;
+            (peer.ends, peer.read_faults, door.out, door.faults),
+            (1, 0, 0, 0)
+        );
+        Ok(())
+    }
+
+    #[test]
+    fn a_peer_that_closes_in_the_middle(rt: HostRuntime) -> io::Result<()> {
+        let (mut door, address) = free_door(&rt);
+        let mut peer = TcpConn::new(rt.connect(address)?);
+        let Ok(Some(mut conn)) = door.next() else {
+            return Err(io::Error::from(io::ErrorKind::NotConnected));
+        };
+        assert!(rt; write_all(&mut peer, b"abc").is_ok());
+        drop(peer);
+        let mut room = [0; PIECE];
+        assert!(rt; !fill(&mut conn, &mut room));
+        assert_eq!(rt; &room[..3], b"abc".as_slice());
+        assert_eq!(rt; (conn.ends, conn.read_faults), (1, 0));
+        let mut failed = false;
+        for _ in 0..64 {
+            failed = failed || write_all(&mut conn, &room).is_err();
+        }
+        assert!(rt; failed);
+        assert_eq!(rt; (conn.ends, conn.read_faults, conn.write_faults), (1, 0, 1));
+        Ok(())
+    }
+
+    #[test]
+    fn a_port_in_use(rt: HostRuntime) {
+        let (_door, address) = free_door(&rt);
+        let mut second: TcpDoor<TcpListener> = TcpDoor::bind(&rt, address.port());
+        assert!(rt; second.next().is_err());
+        assert!(rt; second.next().is_err());
+        assert_eq!(rt; (second.out, second.faults), (0, 2));
+    }
+
+    // A listener whose every call fails.
+    #[derive(Drop)]
+    struct Closed;
+
+    impl OpenListener for Closed {
+        type Stream = TcpStream;
+
+        fn accept(&self) -> io::Result<(TcpStream, SocketAddr)> {
+            Err(io::Error::from(io::ErrorKind::ConnectionAborted))
+        }
+    }
+
+    #[test]
+    fn a_listener_that_fails(rt: HostRuntime) {
+        let mut door = TcpDoor {
+            listener: Some(Closed),
+            out: 0,
+            faults: 0,
+        };
+        assert!(rt; door.next().is_err());
+        assert_eq!(rt; (door.out, door.faults), (0, 1));
     }
 }
