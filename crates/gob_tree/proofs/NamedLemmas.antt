@@ -1,7 +1,7 @@
 -- Lists whose members are read by names.
-use Rattle.std.proofs.Common.{◌≡◌, ℕ, ◌+◌, ◌<◌, List, [], ◌∷◌, ◌++◌, length, map, take, get_or, refl, sym, ap, ◌∙◌, arith}
+use Rattle.std.proofs.Common.{◌≡◌, ℕ, ◌+◌, ◌<◌, List, [], ◌∷◌, ◌++◌, length, map, take, get_or, refl}
 use Rattle.std.proofs.lemmas.List.{get_or-map, map_more}
-use Rattle.gob_tree.specs.Named.{NamedExpr, NamedExprs, expr, no_exprs, in_order}
+use Rattle.gob_tree.specs.Named.{NamedExpr, in_order}
 
 -- the lists of arguments that read alike are equal
 pub in_order-injective : (ds es : List NamedExpr) → in_order ds ≡ in_order es → ds ≡ es

@@ -1,6 +1,6 @@
 -- A function of a program with each number of a function, a global or a mutex read as its name. A
 -- number that names nothing is read as no name. Places are left out: of the nodes their count stays.
-use Rattle.std.specs.Prelude.{◌≡◌, ℕ, ℤ, Bool, List, [], ◌∷◌, Option, None, Some, length, map, slice_get, IsSomeAnd}
+use Rattle.std.specs.Prelude.{◌≡◌, ℕ, ℤ, Bool, List, [], ◌∷◌, Option, length, map, slice_get, IsSomeAnd}
 use Rattle.std.specs.Option.{option_map}
 use Rattle.gob_tree.specs.declared.expr.Width.{Width}
 use Rattle.gob_tree.specs.declared.expr.UnOp.{UnOp}

@@ -1,4 +1,4 @@
-use Rattle.std.proofs.Common.{◌≡◌, ◌<◌, length, map, arith, ap}
+use Rattle.std.proofs.Common.{◌≡◌, ◌<◌, length, arith, ap}
 use Rattle.gob_tree.specs.Named.{named_expr, in_order}
 use Rattle.gob_tree.proofs.NamedLemmas.{in_order-injective, read_alike-at, read_alike_more}
 use Rattle.gob_tree.proofs.same.+same_expr.Goals as goal
