@@ -6,8 +6,8 @@ use Rattle.c_meaning.specs.declared.demand.Demand.{Demand}
 use Rattle.c_meaning.specs.declared.demand.Demand.TheVariants.{Global, Nondet, Call, Fault}
 use Rattle.c_meaning.specs.Demand.{Answer, on_answer, and_then, next_input, decided_or, early_value, unary_value, binary_value, wider, Meaning, meaning_step, meaning_of, answers_of}
 use Rattle.c_meaning.specs.Laws.{IsFinal, FinalStays}
-use Rattle.c_meaning.proofs.Folds.{fold-Number, fold-Local, fold-Global, fold-Nondet, fold-Unary, fold-Binary, fold-Call}
-use Rattle.c_meaning.proofs.Induct.{Each, by_forms}
+use Rattle.gob_tree.proofs.Folds.{fold-Number, fold-Local, fold-Global, fold-Nondet, fold-Unary, fold-Binary, fold-Call}
+use Rattle.gob_tree.proofs.Induct.{Each, by_forms}
 
 -- an evaluation whose final answers stay
 abbrev Stays : {A : Type 0} → (List ℤ → Answer A) → Type 0

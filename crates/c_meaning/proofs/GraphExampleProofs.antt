@@ -8,7 +8,7 @@ use Rattle.gob_tree.specs.declared.stmt.Target.{Target}
 use Rattle.gob_tree.specs.declared.stmt.Stmt.TheOpen.{Stmt-F}
 use Rattle.gob_tree.specs.declared.unit.Function.{Function}
 use Rattle.c_meaning.specs.Graph.{FlowGraph, Lowering, HoistState, Hoisting, lowering_step, flow_of, hoisted_expr, hoisting_of, hoisting_step, hoist_all, call_fetch, lowering_of, sequence, body_route, first_flow, body_start}
-use Rattle.c_meaning.proofs.Folds.{fold-Number, fold-Local, fold-Call}
+use Rattle.gob_tree.proofs.Folds.{fold-Number, fold-Local, fold-Call}
 use Rattle.c_meaning.proofs.Evaluation.{expressions, statements}
 use Rattle.c_meaning.specs.Samples.{place, int}
 use Rattle.c_meaning.specs.StepExamples.{calling_main, called}

@@ -5,7 +5,7 @@ use Rattle.std.specs.Prelude.{if◌then◌else◌, nat_eq, slice_index_or}
 use Rattle.gob_tree.specs.declared.place.Place.{Place}
 use Rattle.gob_tree.specs.declared.graph.Action.{Action}
 use Rattle.c_meaning.specs.Graph.{MarkedEdge, FlowGraph, next_node, with_node, with_edge, with_silent}
-use Rattle.c_meaning.proofs.Induct.{Each}
+use Rattle.gob_tree.proofs.Induct.{Each}
 
 -- ---- lists
 

@@ -1,11 +1,9 @@
 pub mod Begins
 pub mod DemandLaws
 pub mod Evaluation
-pub mod Folds
 pub mod Fronts
 pub mod GraphExampleProofs
 pub mod Growth
-pub mod Induct
 pub mod Lowerings
 pub mod RowProofs
 pub mod SilentHoists

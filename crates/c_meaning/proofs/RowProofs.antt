@@ -4,7 +4,7 @@ use Rattle.gob_tree.specs.declared.stmt.Target.{Target}
 use Rattle.c_meaning.specs.Demand.{Meaning, meaning_step}
 use Rattle.c_meaning.specs.Graph.{FlowGraph, Route, Lowering, Hoisting, hoisting_step}
 use Rattle.c_meaning.specs.Rows.{WidthRows, DemandRows, UnrollRows, HoistRows, LowerRows}
-use Rattle.c_meaning.proofs.Folds.{fold-Number, fold-Local, fold-Global, fold-Nondet, fold-Unary, fold-Binary, fold-Call}
+use Rattle.gob_tree.proofs.Folds.{fold-Number, fold-Local, fold-Global, fold-Nondet, fold-Unary, fold-Binary, fold-Call}
 use Rattle.c_meaning.proofs.Fronts.{front-Block, front-Block_empty, front-DoWhile, front-For, front-For_bare, front-While, front-If}
 use Rattle.c_meaning.proofs.Lowerings.{lowering-Declare, lowering-DeclareThread, lowering-Assign, lowering-CallOnly, lowering-If, lowering-While, lowering-DoWhile, lowering-For, lowering-Block, lowering-Break, lowering-Continue, lowering-Return, lowering-Create, lowering-Join, lowering-Lock, lowering-Unlock, lowering-Assert, lowering-Empty}
 

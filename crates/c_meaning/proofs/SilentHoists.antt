@@ -11,8 +11,8 @@ use Rattle.gob_tree.specs.declared.graph.Action.{Action}
 use Rattle.gob_tree.specs.declared.graph.Action.TheVariants.{Assign, Guard, Read, Nondet, Call}
 use Rattle.c_meaning.specs.Demand.{truth}
 use Rattle.c_meaning.specs.Graph.{FlowGraph, HoistState, Hoisted, Hoisting, next_node, with_node, with_edge, with_silent, taking, free_temp, temp_slot, with_temp, fetch_into, fetch, stop_of, node_of, logic_at, logic_join, strict_join, binary_join, hoist_all, hoisting_step, hoisting_of, begun_at, hoisted_expr, hoisted_exprs}
-use Rattle.c_meaning.proofs.Folds.{fold-Number, fold-Local, fold-Global, fold-Nondet, fold-Unary, fold-Binary, fold-Call}
-use Rattle.c_meaning.proofs.Induct.{Each, by_forms}
+use Rattle.gob_tree.proofs.Folds.{fold-Number, fold-Local, fold-Global, fold-Nondet, fold-Unary, fold-Binary, fold-Call}
+use Rattle.gob_tree.proofs.Induct.{Each, by_forms}
 use Rattle.c_meaning.proofs.Growth.{Ends, ends_append, ends_map, Ranked, ranked_into, Below, Grown, IsNew, Adds, adds_below, adds_then, adds_from, adds_node, adds_silent, append_nil, grown_none, grown_then, grown_from, grown_node, node_more, grown_edge}
 
 -- from one spot to another: what is edges grows, and the node is the same one or a new one

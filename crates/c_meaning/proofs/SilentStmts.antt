@@ -12,7 +12,7 @@ use Rattle.gob_tree.specs.declared.graph.Action.{Action}
 use Rattle.gob_tree.specs.declared.graph.Action.TheVariants.{Guard, Skip}
 use Rattle.c_meaning.specs.Graph.{MarkedEdge, FlowGraph, Route, HoistState, Hoisted, Lowering, next_node, with_node, with_edge, with_silent, with_guards, hoisted_expr, hoisted_exprs, sequence, if_head, if_flow, while_head, while_flow, loop_route, first_route, last_route, do_flow, for_first, for_head, for_flow, condition, lowering_step, placed_step, lowering_of, first_flow, body_route, flow_of}
 use Rattle.c_meaning.specs.Laws.{SilentPath, last_edge as path_end, first_edge, SilentEdgesEnd}
-use Rattle.c_meaning.proofs.Induct.{Each}
+use Rattle.gob_tree.proofs.Induct.{Each}
 use Rattle.c_meaning.proofs.Growth.{Ends, ends_append, ends_map, Ranked, ranked_into, ranked_out_of, Below, IsNew, adds_below, adds_then, adds_node, adds_silent, Grown, grown_then, grown_from, grown_node, node_more, grown_edge, each_at}
 use Rattle.c_meaning.proofs.SilentHoists.{Hoists, hoists_expr, hoists_exprs}
 

@@ -1,1 +1,5 @@
+pub mod Folds
+pub mod Induct
 pub mod NamedLemmas
+pub mod StmtFolds
+pub mod WellMadeProofs

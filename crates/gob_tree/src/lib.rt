@@ -3,6 +3,7 @@
 #![tactic(auto)]
 
 mod boxed;
+mod examples;
 mod expr;
 mod graph;
 mod memory;
@@ -14,6 +15,7 @@ mod text;
 mod unit;
 
 pub use boxed::Boxed;
+pub use examples::{formed_by_hand, well_made_by_hand};
 pub use expr::{BinOp, Expr, UnOp, Width, copy_exprs};
 pub use graph::{Action, Edge, FuncGraph, Program};
 pub use memory::Memory;
