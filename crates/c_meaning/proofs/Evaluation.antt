@@ -6,7 +6,7 @@ use Rattle.c_meaning.specs.Tree.{tree_step, thread_step, frame_step, front_deman
 use Rattle.gob_tree.proofs.Folds.{fold-Number, fold-Local, fold-Global, fold-Nondet, fold-Unary, fold-Binary, fold-Call}
 use Rattle.std.specs.Option.{option_map, option_and_then}
 use Rattle.c_meaning.specs.GraphStep.{after_label, action_effect, site_after, thread_after, after_edge, local_slots}
-use Rattle.c_meaning.specs.Walk.{after_choice, first_edge_step, edge_step, edge_step_or, step_rest, walk_on, after_labels, after_silent, silent_labels, settled_from, settled_within, settled_or, silent_from, first_or, silent_slots}
+use Rattle.c_meaning.specs.Walk.{after_choice, first_edge_step, edge_step, edge_step_or, step_rest, walk_on, after_moves, after_move, after_silent, silent_labels, settled_from, settled_within, settled_or, silent_from, first_or, silent_slots}
 use Rattle.c_meaning.proofs.StmtFolds.{fold-struct, fold-Declare, fold-DeclareThread, fold-Assign, fold-CallOnly, fold-If, fold-While, fold-DoWhile, fold-For, fold-Block, fold-Break, fold-Continue, fold-Return, fold-Create, fold-Join, fold-Lock, fold-Unlock, fold-Assert, fold-Empty}
 use Rattle.c_meaning.proofs.Fronts.{front-Declare, front-DeclareThread, front-Assign, front-CallOnly, front-If, front-While, front-DoWhile, front-For, front-For_bare, front-Block, front-Block_empty, front-Break, front-Continue, front-Return, front-Create, front-Join, front-Lock, front-Unlock, front-Assert, front-Empty}
 
@@ -20,4 +20,4 @@ pub ruleset steps = (expressions, layers, fronts, frame_step, front_demand, dema
 
 pub ruleset statements = (fold-struct, fold-Declare, fold-DeclareThread, fold-Assign, fold-CallOnly, fold-If, fold-While, fold-DoWhile, fold-For, fold-Block, fold-Break, fold-Continue, fold-Return, fold-Create, fold-Join, fold-Lock, fold-Unlock, fold-Assert, fold-Empty)
 
-pub ruleset edges = (expressions, after_choice, first_edge_step, edge_step, edge_step_or, step_rest, walk_on, after_labels, after_silent, silent_labels, settled_from, settled_within, settled_or, silent_from, first_or, silent_slots, local_slots, after_label, thread_after, site_after, after_edge, action_effect, values_of, demands_of, value_of, demand_of, option_map, option_and_then)
+pub ruleset edges = (expressions, after_choice, first_edge_step, edge_step, edge_step_or, step_rest, walk_on, after_moves, after_move, after_silent, silent_labels, settled_from, settled_within, settled_or, silent_from, first_or, silent_slots, local_slots, after_label, thread_after, site_after, after_edge, action_effect, values_of, demands_of, value_of, demand_of, option_map, option_and_then)

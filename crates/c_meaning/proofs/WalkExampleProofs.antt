@@ -2,7 +2,7 @@
 use Rattle.std.proofs.Common.{◌≡◌, refl, sym, ap, ◌∙◌, subst, ℕ, ℤ, pos, false, List, [], ◌∷◌, ◌++◌, length, map, Option, None, Some, arith}
 use Rattle.std.specs.Int.{int_wrap}
 use Rattle.std.specs.List.{Contains}
-use Rattle.std.specs.Option.{option_and_then, option_map_or}
+use Rattle.std.specs.Option.{option_and_then, option_map, option_map_or}
 use Rattle.gob_tree.specs.declared.expr.Width.TheVariants.{W32}
 use Rattle.gob_tree.specs.declared.expr.BinOp.TheVariants.{And}
 use Rattle.gob_tree.specs.declared.expr.Expr.{Local, Global, Binary}
@@ -12,12 +12,19 @@ use Rattle.c_meaning.specs.declared.config.Todo.TheVariants.{Stmt as Doing}
 use Rattle.c_meaning.specs.Graph.{FlowGraph, MarkedProgram, flow_of, hoisted_expr, marked_of, slots_with, graph_slots}
 use Rattle.c_meaning.specs.GraphStep.{Label, Do, Enter, Leave, func_slots}
 use Rattle.c_meaning.specs.Walk.{Begun, begun_of, Moment, Settled, Walked, walk_of, graph_run, labels_by, after_start, after_silent, after_choices, after_choice, walk_on, settled_from, moment_along, moment_with_input, Stands}
+use Rattle.gob_tree.specs.declared.unit.Unit.{Unit as TranslationUnit}
+use Rattle.c_meaning.specs.declared.config.Stepped.TheVariants.{Moved}
+use Rattle.c_meaning.specs.Config.{Config}
+use Rattle.c_meaning.specs.Tree as Tree
+use Rattle.c_meaning.specs.Tree.{TreeStep, MovesTo, IsBlocked, IsFaulted, IsEnded, HasNoThread, word_of, after_step, first_tree}
+use Rattle.c_meaning.specs.Run.{chosen, if_moved, moved_from, words_of, left_by}
+use Rattle.c_meaning.proofs.StepExampleProofs.{two_threads}
 use Rattle.c_meaning.proofs.Begins.{begun_is}
 use Rattle.c_meaning.proofs.Evaluation.{steps, expressions, statements, layers, edges}
-use Rattle.c_meaning.specs.Samples.{at, int, returns, choice, left}
-use Rattle.c_meaning.specs.StepExamples.{first_choice, racing_main, racing_thread, racing, racing_choices, calling_main, calling, calling_choices}
+use Rattle.c_meaning.specs.Samples.{at, int, returns, choice, left, answers}
+use Rattle.c_meaning.specs.StepExamples.{relocking, two_choices, first_choice, racing_main, racing_thread, racing, racing_choices, calling_main, calling, calling_choices}
 use Rattle.c_meaning.specs.GraphExamples.{joining, joining_flow, joining_unit}
-use Rattle.c_meaning.specs.WalkExamples.{racing_thread_flow, racing_main_flow, racing_with, racing_marked, racing_at, racing_first_moves, racing_walk, racing_thread_walk, joining_with, joining_at, joining_choices, joining_walk, called_flow, calling_flow, calling_with, calling_at, calling_frame, called_frame, calling_walk, joining_tree, joining_moment}
+use Rattle.c_meaning.specs.WalkExamples.{by, racing_thread_flow, racing_main_flow, racing_with, racing_marked, racing_at, racing_first_moves, racing_walk, racing_thread_walk, joining_with, joining_at, joining_choices, joining_walk, called_flow, calling_flow, calling_with, calling_at, calling_frame, called_frame, calling_walk, joining_tree, joining_moment}
 use Rattle.c_meaning.proofs.GraphExampleProofs.{and_with_input, call_in_expression, called_graph}
 
 -- ---- walks
@@ -40,13 +47,13 @@ w3 : Walked
 w3 = racing_at (pos 0) 6 (pos 0 ∷ pos 0 ∷ pos 0 ∷ pos 0 ∷ []) 2 racing_first_moves
 
 w4 : Walked
-w4 = racing_at (pos 1) 6 (pos 0 ∷ pos 0 ∷ pos 0 ∷ pos 0 ∷ []) 3 (racing_first_moves ++ (2, Do 1) ∷ [])
+w4 = racing_at (pos 1) 6 (pos 0 ∷ pos 0 ∷ pos 0 ∷ pos 0 ∷ []) 3 (racing_first_moves ++ by 2 (Do 1) ∷ [])
 
 w5 : Walked
-w5 = racing_at (pos 1) 7 (pos 0 ∷ pos 0 ∷ pos 0 ∷ pos 1 ∷ []) 3 (racing_first_moves ++ (2, Do 1) ∷ (1, Do 4) ∷ [])
+w5 = racing_at (pos 1) 7 (pos 0 ∷ pos 0 ∷ pos 0 ∷ pos 1 ∷ []) 3 (racing_first_moves ++ by 2 (Do 1) ∷ by 1 (Do 4) ∷ [])
 
 w6 : Walked
-w6 = racing_at (pos 1) 5 (pos 0 ∷ pos 1 ∷ pos 0 ∷ pos 1 ∷ []) 3 (racing_first_moves ++ (2, Do 1) ∷ (1, Do 4) ∷ (1, Do 5) ∷ [])
+w6 = racing_at (pos 1) 5 (pos 0 ∷ pos 1 ∷ pos 0 ∷ pos 1 ∷ []) 3 (racing_first_moves ++ by 2 (Do 1) ∷ by 1 (Do 4) ∷ by 1 (Do 5) ∷ [])
 
 three : graph_run racing_marked racing_choices ≡ after_choices racing_marked (choice 2 0 ∷ choice 1 0 ∷ choice 1 0 ∷ []) w3
 unfolding int_wrap w3
@@ -72,16 +79,38 @@ racing_run =
     ∙ one_more racing_marked (choice 1 0) (choice 1 0 ∷ []) w4 w5 fifth
     ∙ one_more racing_marked (choice 1 0) [] w5 w6 sixth
 
-labels_in : ℕ → Option Walked → List Label
-labels_in t w = option_map_or (λ (w : Walked). labels_by t w.moves) w []
+-- choices that all move are a run
+all_move : (unit : TranslationUnit) (c : Config Tree.Frame) (choices : List Choice) → words_of unit c choices ≡ map (λ choice. Moved) choices → moved_from unit c choices ≡ Some (left_by unit c choices)
+all_move unit c [] e = refl
+all_move unit c (choice ∷ choices) e = go (chosen unit c choice) (λ next. all_move unit next choices) e
+  where
+    go : (s : TreeStep) → ((next : Config Tree.Frame) → words_of unit next choices ≡ map (λ choice. Moved) choices → moved_from unit next choices ≡ Some (left_by unit next choices)) → word_of s ∷ words_of unit (after_step c s) choices ≡ Moved ∷ map (λ choice. Moved) choices → if_moved s (λ next. moved_from unit next choices) ≡ Some (left_by unit (after_step c s) choices)
+    go (MovesTo next) rest e' = rest next cc
+    go IsBlocked rest e' = cc
+    go IsFaulted rest e' = cc
+    go IsEnded rest e' = cc
+    go HasNoThread rest e' = cc
 
-pub main : walk_of racing racing_choices 1 ≡ racing_walk
-unfolding labels_in w6
-main = ap (labels_in 1) racing_run
+-- the walks of a run whose choices all move, and whose moves are these
+walk_by : (unit : TranslationUnit) (choices : List Choice) (w : Walked) (t : ℕ) → answers unit choices ≡ map (λ choice. Moved) choices → graph_run (marked_of unit) choices ≡ Some w → walk_of unit choices t ≡ Some (labels_by t w.moves)
+walk_by unit choices w t moved run =
+    ap (λ (last : Option (Config Tree.Frame)). option_map (labels_by t) (option_and_then (λ l. option_map (λ (v : Walked). v.moves) (graph_run (marked_of unit) choices)) last)) (all_move unit (first_tree unit) choices moved)
+    ∙ ap (λ (v : Option Walked). option_map (labels_by t) (option_map (λ (v : Walked). v.moves) v)) run
 
-pub thread : walk_of racing racing_choices 2 ≡ racing_thread_walk
-unfolding labels_in w6
-thread = ap (labels_in 2) racing_run
+pub main : walk_of racing racing_choices 1 ≡ Some racing_walk
+unfolding w6
+main = walk_by racing racing_choices w6 1 two_threads racing_run
+
+pub thread : walk_of racing racing_choices 2 ≡ Some racing_thread_walk
+unfolding w6
+thread = walk_by racing racing_choices w6 2 two_threads racing_run
+
+relocking_stops : moved_from relocking (first_tree relocking) two_choices ≡ None
+relocking_stops = simp steps
+
+-- a list of choices that is no run has no walk
+pub no_walk : walk_of relocking two_choices 1 ≡ None
+no_walk = ap (λ (last : Option (Config Tree.Frame)). option_map (labels_by 1) (option_and_then (λ l. option_map (λ (v : Walked). v.moves) (graph_run (marked_of relocking) two_choices)) last)) relocking_stops
 
 joining_marked : MarkedProgram
 joining_marked = joining_with joining_flow
@@ -92,16 +121,16 @@ joining_is = ap joining_with and_with_input
 
 -- the run at its start and after each choice
 j0 : Walked
-j0 = joining_at 4 (pos 0 ∷ pos 0 ∷ pos 0 ∷ pos 0 ∷ []) ((1, Do 0) ∷ (1, Do 1) ∷ [])
+j0 = joining_at 4 (pos 0 ∷ pos 0 ∷ pos 0 ∷ pos 0 ∷ []) (by 1 (Do 0) ∷ by 1 (Do 1) ∷ [])
 
 j1 : Walked
-j1 = joining_at 6 (pos 0 ∷ pos 0 ∷ pos 1 ∷ pos 5 ∷ []) ((1, Do 0) ∷ (1, Do 1) ∷ (1, Do 4) ∷ (1, Do 5) ∷ [])
+j1 = joining_at 6 (pos 0 ∷ pos 0 ∷ pos 1 ∷ pos 5 ∷ []) (by 1 (Do 0) ∷ by 1 (Do 1) ∷ by 1 (Do 4) ∷ by 1 (Do 5) ∷ [])
 
 j2 : Walked
-j2 = joining_at 3 (pos 0 ∷ pos 1 ∷ pos 1 ∷ pos 5 ∷ []) ((1, Do 0) ∷ (1, Do 1) ∷ (1, Do 4) ∷ (1, Do 5) ∷ (1, Do 6) ∷ [])
+j2 = joining_at 3 (pos 0 ∷ pos 1 ∷ pos 1 ∷ pos 5 ∷ []) (by 1 (Do 0) ∷ by 1 (Do 1) ∷ by 1 (Do 4) ∷ by 1 (Do 5) ∷ by 1 (Do 6) ∷ [])
 
 j3 : Walked
-j3 = joining_at 1 (pos 1 ∷ pos 1 ∷ pos 1 ∷ pos 5 ∷ []) ((1, Do 0) ∷ (1, Do 1) ∷ (1, Do 4) ∷ (1, Do 5) ∷ (1, Do 6) ∷ (1, Do 7) ∷ [])
+j3 = joining_at 1 (pos 1 ∷ pos 1 ∷ pos 1 ∷ pos 5 ∷ []) (by 1 (Do 0) ∷ by 1 (Do 1) ∷ by 1 (Do 4) ∷ by 1 (Do 5) ∷ by 1 (Do 6) ∷ by 1 (Do 7) ∷ [])
 
 -- the silent edges at a node, and the run after them
 at_node : ℕ → List ℤ → Moment
@@ -130,7 +159,7 @@ begun = ap (λ (s : Settled). walked_on s.0 start) start_settles ∙ start_walks
 
 -- right after the read
 read : Walked
-read = joining_at 7 (pos 0 ∷ pos 0 ∷ pos 0 ∷ pos 5 ∷ []) ((1, Do 0) ∷ (1, Do 1) ∷ (1, Do 4) ∷ [])
+read = joining_at 7 (pos 0 ∷ pos 0 ∷ pos 0 ∷ pos 5 ∷ []) (by 1 (Do 0) ∷ by 1 (Do 1) ∷ by 1 (Do 4) ∷ [])
 
 read_settles : settled_at (at_node 7 (pos 0 ∷ pos 0 ∷ pos 0 ∷ pos 5 ∷ [])) ≡ (5 ∷ [], at_node 6 (pos 0 ∷ pos 0 ∷ pos 1 ∷ pos 5 ∷ []))
 unfolding int_wrap settled_at at_node joining_marked
@@ -165,9 +194,13 @@ joining_run =
     ∙ one_more joining_marked (choice 1 0) (choice 1 0 ∷ []) j1 j2 second
     ∙ one_more joining_marked (choice 1 0) [] j2 j3 third
 
-pub over_silent_edges : walk_of joining_unit joining_choices 1 ≡ joining_walk
-unfolding labels_in j3
-over_silent_edges = ap (labels_in 1) joining_run
+joining_moves : answers joining_unit joining_choices ≡ Moved ∷ Moved ∷ Moved ∷ []
+unfolding int_wrap
+joining_moves = simp steps
+
+pub over_silent_edges : walk_of joining_unit joining_choices 1 ≡ Some joining_walk
+unfolding j3
+over_silent_edges = walk_by joining_unit joining_choices j3 1 joining_moves joining_run
 
 calling_marked : MarkedProgram
 calling_marked = calling_with called_flow calling_flow
@@ -177,16 +210,16 @@ unfolding calling_marked
 calling_marked_is = ap (λ (d : FlowGraph). calling_with d (flow_of calling_main)) called_graph ∙ ap (λ (d : FlowGraph). calling_with called_flow d) call_in_expression
 
 c0 : Walked
-c0 = calling_at (calling_frame 2 (pos 0 ∷ pos 0 ∷ pos 0 ∷ []) None ∷ []) ((1, Do 0) ∷ [])
+c0 = calling_at (calling_frame 2 (pos 0 ∷ pos 0 ∷ pos 0 ∷ []) None ∷ []) (by 1 (Do 0) ∷ [])
 
 c1 : Walked
-c1 = calling_at (called_frame ∷ calling_frame 2 (pos 0 ∷ pos 0 ∷ pos 0 ∷ []) (Some 1) ∷ []) ((1, Do 0) ∷ (1, Enter 1) ∷ (1, Do 0) ∷ [])
+c1 = calling_at (called_frame ∷ calling_frame 2 (pos 0 ∷ pos 0 ∷ pos 0 ∷ []) (Some 1) ∷ []) (by 1 (Do 0) ∷ by 1 (Enter 1) ∷ by 1 (Do 0) ∷ [])
 
 c2 : Walked
-c2 = calling_at (calling_frame 4 (pos 0 ∷ pos 0 ∷ pos 2 ∷ []) None ∷ []) ((1, Do 0) ∷ (1, Enter 1) ∷ (1, Do 0) ∷ (1, Do 1) ∷ (1, Leave) ∷ [])
+c2 = calling_at (calling_frame 4 (pos 0 ∷ pos 0 ∷ pos 2 ∷ []) None ∷ []) (by 1 (Do 0) ∷ by 1 (Enter 1) ∷ by 1 (Do 0) ∷ by 1 (Do 1) ∷ by 1 Leave ∷ [])
 
 c3 : Walked
-c3 = calling_at (calling_frame 3 (pos 0 ∷ pos 2 ∷ pos 2 ∷ []) None ∷ []) ((1, Do 0) ∷ (1, Enter 1) ∷ (1, Do 0) ∷ (1, Do 1) ∷ (1, Leave) ∷ (1, Do 2) ∷ [])
+c3 = calling_at (calling_frame 3 (pos 0 ∷ pos 2 ∷ pos 2 ∷ []) None ∷ []) (by 1 (Do 0) ∷ by 1 (Enter 1) ∷ by 1 (Do 0) ∷ by 1 (Do 1) ∷ by 1 Leave ∷ by 1 (Do 2) ∷ [])
 
 calling_begun : graph_run calling_marked calling_choices ≡ after_choices calling_marked calling_choices c0
 unfolding int_wrap calling_marked c0
@@ -212,9 +245,13 @@ calling_run =
     ∙ one_more calling_marked (choice 1 0) (choice 1 0 ∷ []) c1 c2 calling_leaves
     ∙ one_more calling_marked (choice 1 0) [] c2 c3 calling_ends
 
-pub through_a_call : walk_of calling calling_choices 1 ≡ calling_walk
-unfolding labels_in c3
-through_a_call = ap (labels_in 1) calling_run
+calling_moves : answers calling calling_choices ≡ Moved ∷ Moved ∷ Moved ∷ []
+unfolding int_wrap
+calling_moves = simp steps
+
+pub through_a_call : walk_of calling calling_choices 1 ≡ Some calling_walk
+unfolding c3
+through_a_call = walk_by calling calling_choices c3 1 calling_moves calling_run
 
 -- ---- standing
 
@@ -241,7 +278,7 @@ along_by : FlowGraph → Option Moment
 along_by d = moment_along (slots_with joining d) d.edges (pos 5 ∷ []) (record { node = 2; slots = pos 0 ∷ pos 0 ∷ pos 0 ∷ pos 0 ∷ [] })
 
 with_five : Settled → Option Moment
-with_five s = option_and_then (moment_along (slots_with joining joining_flow) joining_flow.edges []) (moment_with_input (slots_with joining joining_flow) joining_flow.edges (pos 5) s.1)
+with_five s = option_and_then (moment_along (slots_with joining joining_flow) joining_flow.edges []) (moment_with_input joining_flow.edges (pos 5) s.1)
 
 along_to_join : along_by joining_flow ≡ Some (at_node 6 (pos 0 ∷ pos 0 ∷ pos 1 ∷ pos 5 ∷ []))
 unfolding int_wrap along_by with_five settled_at at_node joining_marked

@@ -3,7 +3,7 @@
 --
 -- A reader should check: at which node each thing to do begins, how inputs and silent edges move a
 -- frame on, what has to agree, and which labels belong to a step of the tree.
-use Rattle.std.specs.Prelude.{◌≡◌, ℕ, zero, suc, ◌+◌, ℤ, pos, Bool, true, false, not, ◌&&◌, if◌then◌else◌, List, [], ◌∷◌, ◌++◌, map, length, take, Option, None, Some, nat_eq, slice_get}
+use Rattle.std.specs.Prelude.{◌≡◌, ℕ, zero, suc, ◌+◌, ℤ, pos, Bool, true, false, not, ◌&&◌, if◌then◌else◌, List, [], ◌∷◌, ◌++◌, map, length, take, Option, None, Some, nat_eq, slice_get, slice_set}
 use Rattle.std.specs.List.{Contains, filter}
 use Rattle.std.specs.Option.{option_map, option_map_or, option_and_then}
 use Rattle.gob_tree.specs.declared.expr.Expr.{Expr}
@@ -21,9 +21,10 @@ use Rattle.gob_tree.specs.declared.graph.Program.{Program}
 use Rattle.c_meaning.specs.declared.config.Todo.{Todo}
 use Rattle.c_meaning.specs.declared.config.Todo.TheVariants.{Stmt as Doing, Test, Last}
 use Rattle.c_meaning.specs.declared.config.Choice.{Choice}
-use Rattle.c_meaning.specs.Demand.{with_slot}
 use Rattle.c_meaning.specs.Config.{Config, thread_at, next_thread}
 use Rattle.c_meaning.specs.Tree as Tree
+use Rattle.c_meaning.specs.Tree.{first_tree}
+use Rattle.c_meaning.specs.Run.{moved_from}
 use Rattle.c_meaning.specs.Graph.{FlowGraph, MarkedEdge, Route, Hoisted, lowering_of, next_node, with_node, hoisted_expr, route_to, route_from, then_route, else_route, while_route, do_route, first_route, for_route, last_node, if_head, while_head, for_first, for_head, condition, first_flow, body_route, flow_of, graph_slots, MarkedProgram, marked_of, program_of}
 use Rattle.c_meaning.specs.GraphStep as Graph
 use Rattle.c_meaning.specs.GraphStep.{Label, Do, Enter, Leave, local_slots, after_label, edge_at, first_graph}
@@ -166,15 +167,16 @@ abbrev pub input_from : List MarkedEdge → ℕ → Option (ℕ × ℕ)
 input_from [] node = None
 input_from (d ∷ ds) node = input_or (input_edge d node) (input_from ds node)
 
-abbrev pub moment_with_input : List Slot → List MarkedEdge → ℤ → Moment → Option Moment
-moment_with_input slots edges n m =
-    option_map (λ to. record { node = to.1; slots = with_slot slots to.0 n m.slots }) (input_from edges m.node)
+-- the input is stored as it came, so the temporaries of a frame that stands hold just its inputs
+abbrev pub moment_with_input : List MarkedEdge → ℤ → Moment → Option Moment
+moment_with_input edges n m =
+    option_map (λ to. record { node = to.1; slots = slice_set m.slots to.0 n }) (input_from edges m.node)
 
 -- the moment that each silent edge that can be done and one edge for each input lead to
 abbrev pub moment_along : List Slot → List MarkedEdge → List ℤ → Moment → Option Moment
 moment_along slots edges [] m = Some (settled_from slots edges m).1
 moment_along slots edges (n ∷ ins) m =
-    option_and_then (moment_along slots edges ins) (moment_with_input slots edges n (settled_from slots edges m).1)
+    option_and_then (moment_along slots edges ins) (moment_with_input edges n (settled_from slots edges m).1)
 
 -- ---- standing
 
@@ -241,28 +243,38 @@ pub record Stands (unit : TranslationUnit) (t : Config Tree.Frame) (g : Config G
 
 -- ---- walking
 
--- a label that a thread takes
-abbrev pub Move : Type 0
-Move = ℕ × Label
+-- A move of a graph's run: a thread, the label that it takes, and the number that it gets where the
+-- label's action asks for an arbitrary one. So a list of moves leads to one configuration at most,
+-- and so does each of its prefixes.
+pub record Move : Type 0 where
+  pub thread : ℕ
+  pub label : Label
+  pub input : ℤ
+
+abbrev pub after_move : Program → Config Graph.Frame → Move → Option (Config Graph.Frame)
+after_move program c move = after_label program c move.thread move.input move.label
+
+abbrev pub after_moves : Program → List Move → Config Graph.Frame → Option (Config Graph.Frame)
+after_moves program [] c = Some c
+after_moves program (move ∷ moves) c = option_and_then (after_moves program moves) (after_move program c move)
+
+-- the moves are a run of the graphs, and it ends in this configuration
+abbrev pub IsGraphRun : Program → List Move → Config Graph.Frame → Type 0
+IsGraphRun program moves last = after_moves program moves (first_graph program) ≡ Some last
 
 -- how far a run of a graph has got: the moves, and the configuration
 pub record Walked : Type 0 where
   pub moves : List Move
   pub config : Config Graph.Frame
 
--- the configuration after a thread takes these labels one after another
-abbrev pub after_labels : Program → ℕ → ℤ → List Label → Config Graph.Frame → Option (Config Graph.Frame)
-after_labels program t input [] c = Some c
-after_labels program t input (label ∷ labels) c =
-    option_and_then (after_labels program t input labels) (after_label program c t input label)
-
-abbrev pub moves_by : ℕ → List Label → List Move
-moves_by t = map (λ label. (t, label))
+abbrev pub moves_by : ℕ → ℤ → List Label → List Move
+moves_by t input = map (λ label. record { thread = t; label = label; input = input })
 
 -- the run goes on by these labels of a thread
 abbrev pub walk_on : Program → ℕ → ℤ → List Label → Walked → Option Walked
 walk_on program t input labels w =
-    option_map (λ c. record { moves = w.moves ++ moves_by t labels; config = c }) (after_labels program t input labels w.config)
+    let moves = moves_by t input labels in
+    option_map (λ c. record { moves = w.moves ++ moves; config = c }) (after_moves program moves w.config)
 
 abbrev pub frames_at : Walked → ℕ → List Graph.Frame
 frames_at w t = option_map_or (λ frames. frames) (thread_at w.config.threads t) []
@@ -346,11 +358,13 @@ graph_run m choices =
 
 -- the labels of one thread among moves
 abbrev pub labels_by : ℕ → List Move → List Label
-labels_by t moves = map (λ move. move.1) (filter (λ move. nat_eq move.0 t) moves)
+labels_by t moves = map (λ move. move.label) (filter (λ move. nat_eq move.thread t) moves)
 
-abbrev pub walk_in : MarkedProgram → List Choice → ℕ → List Label
-walk_in m choices t = option_map_or (λ w. labels_by t w.moves) (graph_run m choices) []
+-- the moves of the graphs that go with a run of the tree; none where the choices are no run
+abbrev pub moves_of : TranslationUnit → List Choice → Option (List Move)
+moves_of unit choices =
+    option_and_then (λ last. option_map (λ w. w.moves) (graph_run (marked_of unit) choices)) (moved_from unit (first_tree unit) choices)
 
--- the labels by which a thread goes through a run
-abbrev pub walk_of : TranslationUnit → List Choice → ℕ → List Label
-walk_of unit = walk_in (marked_of unit)
+-- the labels by which a thread goes through a run; none where the choices are no run
+abbrev pub walk_of : TranslationUnit → List Choice → ℕ → Option (List Label)
+walk_of unit choices t = option_map (labels_by t) (moves_of unit choices)

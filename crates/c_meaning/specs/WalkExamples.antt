@@ -19,6 +19,10 @@ use Rattle.c_meaning.specs.GraphExamples.{silent_edge, visible_edge, joining}
 
 -- ---- walks
 
+-- a move without an input
+abbrev pub by : ℕ → Label → Move
+by t label = record { thread = t; label = label; input = pos 0 }
+
 abbrev pub racing_thread_flow : FlowGraph
 racing_thread_flow = record {
   named = 1;
@@ -72,7 +76,7 @@ racing_at g main_node main_slots thread_node moves = record {
 }
 
 abbrev pub racing_first_moves : List Move
-racing_first_moves = (1, Do 0) ∷ (1, Do 1) ∷ (1, Do 2) ∷ (2, Do 0) ∷ (1, Do 3) ∷ []
+racing_first_moves = by 1 (Do 0) ∷ by 1 (Do 1) ∷ by 1 (Do 2) ∷ by 2 (Do 0) ∷ by 1 (Do 3) ∷ []
 
 abbrev pub racing_walk : List Label
 racing_walk = Do 0 ∷ Do 1 ∷ Do 2 ∷ Do 3 ∷ Do 4 ∷ Do 5 ∷ []

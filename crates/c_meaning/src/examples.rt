@@ -1,4 +1,4 @@
-ghost use Rattle.std.specs.Prelude.{◌≡◌, pos, negsuc, [], ◌∷◌, Ok, Err};
+ghost use Rattle.std.specs.Prelude.{◌≡◌, pos, negsuc, [], ◌∷◌, Ok, Err, Some, None};
 ghost use Rattle.c_meaning.specs.Demand.{demand_of, value_of, with_slot};
 ghost use Rattle.c_meaning.specs.Graph.{flow_of};
 ghost use Rattle.c_meaning.specs.Walk.{walk_of, Stands};
@@ -121,12 +121,13 @@ pub fn graphs_by_hand()
 {}
 
 /// Walks worked out by hand: those of two threads, one over the silent edges of an `&&`, and one
-/// through a call.
+/// through a call; a list of choices that is no run has none.
 pub fn walks_by_hand()
-    ensures main { walk_of racing racing_choices 1 ≡ racing_walk }
-    ensures thread { walk_of racing racing_choices 2 ≡ racing_thread_walk }
-    ensures over_silent_edges { walk_of joining_unit joining_choices 1 ≡ joining_walk }
-    ensures through_a_call { walk_of calling calling_choices 1 ≡ calling_walk }
+    ensures main { walk_of racing racing_choices 1 ≡ Some racing_walk }
+    ensures thread { walk_of racing racing_choices 2 ≡ Some racing_thread_walk }
+    ensures over_silent_edges { walk_of joining_unit joining_choices 1 ≡ Some joining_walk }
+    ensures no_run { walk_of relocking two_choices 1 ≡ None }
+    ensures through_a_call { walk_of calling calling_choices 1 ≡ Some calling_walk }
 {}
 
 /// A tree and a graph at the same moment: after the read of `g` in `int x = 1 && g;` the graph

@@ -12,3 +12,6 @@ returns-clause-over_silent_edges c = examples.over_silent_edges
 
 pub returns-clause-through_a_call : goal.returns-clause-through_a_call
 returns-clause-through_a_call c = examples.through_a_call
+
+pub returns-clause-no_run : goal.returns-clause-no_run
+returns-clause-no_run c = examples.no_walk
