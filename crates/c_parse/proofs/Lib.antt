@@ -1,2 +1,4 @@
+pub mod Descent
 pub mod Opening
 pub mod Passing
+pub mod Unique

@@ -12,7 +12,8 @@ use Rattle.c_parse.specs.declared.stop.Stop.TheVariants.{At, Memory}
 use Rattle.c_parse.specs.declared.stop.Trouble.{Trouble}
 use Rattle.c_parse.specs.declared.stop.Trouble.TheVariants.{Bad, Deep}
 use Rattle.gob_tree.specs.declared.expr.BinOp.{BinOp}
-use Rattle.c_parse.specs.Grammar.{Nesting, counted, entered, settled, ended, within, operator, top}
+use Rattle.c_parse.specs.declared.raw.expr.RawExpr.{RawExpr}
+use Rattle.c_parse.specs.Grammar.{Nesting, counted, entered, settled, ended, within, operator, top, ReadsMoreArgs}
 
 abbrev pub kind_of : Sign → Kind
 kind_of signs.OpenParen = kinds.OpenParen
@@ -452,3 +453,137 @@ pub record Breaks (p : Part) (a : Nesting) (ts : List Terminal) (s : Stop) : Typ
 abbrev pub BreaksUnit : List Terminal → Stop → Type 0
 BreaksUnit ts (At trouble left) = run [] (within 0) ts ≡ troubled trouble left
 BreaksUnit ts Memory = Unit {0}
+
+-- the same however many operators were read
+pub record BreaksEver (p : Part) (ts : List Terminal) (s : Stop) : Type 0 where
+  pub breaks : (n : ℕ) → Breaks p (within n) ts s
+
+-- the reading stops at a token that is over a limit
+pub record IsOver (a : Nesting) (s : Stop) : Type 0 where
+  pub left : ℕ
+  pub is : s ≡ At Deep left
+  pub over : a.over ≡ Some left
+
+-- the list goes on from the first part by the arguments that follow
+abbrev pub ReadsOnto : Bool → List RawExpr → Nesting → List Terminal → List RawExpr → List Terminal → Nesting → Type 0
+ReadsOnto alone front a ts all rest b = (es : List RawExpr) × (all ≡ front ++ es) × ReadsMoreArgs alone a ts es rest b
+
+-- tests of a token
+
+abbrev pub opens_operand : Kind → Bool
+opens_operand (kinds.Number v w) = true
+opens_operand (kinds.Name x) = true
+opens_operand kinds.Minus = true
+opens_operand kinds.Plus = true
+opens_operand kinds.Not = true
+opens_operand kinds.OpenParen = true
+opens_operand _ = false
+
+abbrev pub opens_type : Kind → Bool
+opens_type kinds.Int = true
+opens_type kinds.Long = true
+opens_type _ = false
+
+abbrev pub opens_decl : Kind → Bool
+opens_decl kinds.Int = true
+opens_decl kinds.Long = true
+opens_decl kinds.Thread = true
+opens_decl _ = false
+
+abbrev pub opens_simple : Kind → Bool
+opens_simple (kinds.Name x) = true
+opens_simple (kinds.Step op) = true
+opens_simple kinds.Assert = true
+opens_simple kinds.Create = true
+opens_simple kinds.Join = true
+opens_simple kinds.Lock = true
+opens_simple kinds.Unlock = true
+opens_simple _ = false
+
+abbrev pub opens_stmt : Kind → Bool
+opens_stmt (kinds.Name x) = true
+opens_stmt (kinds.Step op) = true
+opens_stmt kinds.Assert = true
+opens_stmt kinds.Create = true
+opens_stmt kinds.Join = true
+opens_stmt kinds.Lock = true
+opens_stmt kinds.Unlock = true
+opens_stmt kinds.Semicolon = true
+opens_stmt kinds.OpenBrace = true
+opens_stmt kinds.If = true
+opens_stmt kinds.While = true
+opens_stmt kinds.Do = true
+opens_stmt kinds.For = true
+opens_stmt kinds.Break = true
+opens_stmt kinds.Continue = true
+opens_stmt kinds.Return = true
+opens_stmt _ = false
+
+abbrev pub is_close_paren : Kind → Bool
+is_close_paren kinds.CloseParen = true
+is_close_paren _ = false
+
+abbrev pub is_semicolon : Kind → Bool
+is_semicolon kinds.Semicolon = true
+is_semicolon _ = false
+
+abbrev pub is_close_brace : Kind → Bool
+is_close_brace kinds.CloseBrace = true
+is_close_brace _ = false
+
+abbrev pub is_comma : Kind → Bool
+is_comma kinds.Comma = true
+is_comma _ = false
+
+abbrev pub ends_value : Kind → Bool
+ends_value kinds.Semicolon = true
+ends_value kinds.Null = true
+ends_value _ = false
+
+abbrev pub ends_first : Kind → Bool
+ends_first kinds.Semicolon = true
+ends_first kinds.Int = true
+ends_first kinds.Long = true
+ends_first _ = false
+
+abbrev pub ends_items : Kind → Bool
+ends_items kinds.CloseBrace = true
+ends_items kinds.Int = true
+ends_items kinds.Long = true
+ends_items kinds.Thread = true
+ends_items _ = false
+
+abbrev pub ends_params : Kind → Bool
+ends_params kinds.CloseParen = true
+ends_params kinds.Void = true
+ends_params _ = false
+
+abbrev pub is_name : Kind → Bool
+is_name (kinds.Name x) = true
+is_name _ = false
+
+abbrev pub is_word_outside : Kind → Bool
+is_word_outside kinds.Void = true
+is_word_outside kinds.Mutex = true
+is_word_outside _ = false
+
+abbrev pub is_storage : Kind → Bool
+is_storage kinds.Static = true
+is_storage kinds.Extern = true
+is_storage _ = false
+
+abbrev pub is_thread : Kind → Bool
+is_thread kinds.Thread = true
+is_thread _ = false
+
+abbrev pub is_worded : Kind → Bool
+is_worded kinds.Semicolon = true
+is_worded kinds.OpenBrace = true
+is_worded kinds.If = true
+is_worded kinds.While = true
+is_worded kinds.Do = true
+is_worded kinds.For = true
+is_worded kinds.Break = true
+is_worded kinds.Continue = true
+is_worded kinds.Return = true
+is_worded _ = false
