@@ -9,6 +9,7 @@ pub mod RowProofs
 pub mod SilentHoists
 pub mod SilentStmts
 pub mod Settling
+pub mod StandExampleProofs
 pub mod StepExampleProofs
 pub mod StepLaws
 pub mod StmtFolds

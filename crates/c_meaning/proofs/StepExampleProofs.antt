@@ -6,7 +6,7 @@ use Rattle.c_meaning.specs.declared.demand.Demand.TheVariants.{Nondet, Fault}
 use Rattle.c_meaning.specs.Demand.{value_of, demand_of, with_slot}
 use Rattle.c_meaning.proofs.Evaluation.{steps, expressions}
 use Rattle.c_meaning.specs.Samples.{answers, left, slots_of}
-use Rattle.c_meaning.specs.StepExamples.{first_choice, one_fault, zero_division, top_sum, least_quotient, long_sum, long_sum_behind, long_slots, long_values, int_slots, two_inputs, early_fault, early_stop, relocking, returning, dividing, adding, widening, racing, racing_choices, calling, calling_choices, inside_slots, calling_slots, unlocking, joining_none, waiting, waiting_choices, waiting_answers, turning, turning_choices, turning_threads, relocking_answers, returning_answers, dividing_answers, racing_answers, two_choices, late_choices, adding_choices, adding_slots, widening_choices, widening_slots, racing_slots}
+use Rattle.c_meaning.specs.StepExamples.{first_choice, one_fault, zero_division, top_sum, least_quotient, long_sum, long_sum_behind, long_slots, long_values, int_slots, two_inputs, early_fault, early_stop, early_or, late_or, one_input, relocking, returning, dividing, adding, widening, racing, racing_choices, calling, calling_choices, inside_slots, calling_slots, unlocking, joining_none, waiting, waiting_choices, waiting_answers, turning, turning_choices, turning_threads, relocking_answers, returning_answers, dividing_answers, racing_answers, two_choices, late_choices, adding_choices, adding_slots, widening_choices, widening_slots, racing_slots}
 
 -- ---- expressions
 
@@ -45,6 +45,12 @@ fault_before_input = simp (expressions, value_of, demand_of)
 
 pub stops_early : value_of early_stop [] [] ≡ Ok (pos 0)
 stops_early = simp (expressions, value_of, demand_of)
+
+pub or_stops_early : demand_of early_or [] [] one_input ≡ (Ok (pos 1), one_input)
+or_stops_early = simp (expressions, demand_of)
+
+pub or_goes_on : demand_of late_or [] [] one_input ≡ (Ok (pos 1), [])
+or_goes_on = simp (expressions, demand_of)
 
 -- ---- steps
 

@@ -1,14 +1,13 @@
 -- A fold of a statement into functions, one level down and applied.
-use Rattle.std.proofs.Common.{◌≡◌, sym, ap, ◌∙◌, ℕ, List, map, Option, None, Some}
+use Rattle.std.proofs.Common.{◌≡◌, ap, ℕ, List, map, Option, None, Some}
 use Rattle.std.specs.Option.{option_map}
 use Rattle.gob_tree.proofs.StmtFolds as general
 use Rattle.gob_tree.specs.declared.place.Place.{Place}
 use Rattle.gob_tree.specs.declared.expr.Expr.{Expr}
 use Rattle.gob_tree.specs.declared.stmt.Target.{Target}
-use Rattle.gob_tree.specs.declared.stmt.Stmt.{Stmt, Declare, DeclareThread, Assign, CallOnly, If, While, DoWhile, For, Block, Break, Continue, Return, Create, Join, Lock, Unlock, Assert, Empty, fold-Stmt, fold-roll-Stmt}
+use Rattle.gob_tree.specs.declared.stmt.Stmt.{Stmt, Declare, DeclareThread, Assign, CallOnly, If, While, DoWhile, For, Block, Break, Continue, Return, Create, Join, Lock, Unlock, Assert, Empty, fold-Stmt}
 use Rattle.gob_tree.specs.declared.stmt.Stmt.TheOpen.{Stmt-F, Placed-F}
-use Rattle.gob_tree.specs.declared.stmt.Stmt.TheVariants.{rolls-Declare, rolls-DeclareThread, rolls-Assign, rolls-CallOnly, rolls-If, rolls-While, rolls-DoWhile, rolls-For, rolls-Block, rolls-Break, rolls-Continue, rolls-Return, rolls-Create, rolls-Join, rolls-Lock, rolls-Unlock, rolls-Assert, rolls-Empty}
-use Rattle.gob_tree.specs.declared.stmt.Placed.{Placed, fold-Placed, fold-roll-Placed}
+use Rattle.gob_tree.specs.declared.stmt.Placed.{Placed, fold-Placed}
 
 module _ (X B : Type 0) (step : Stmt-F (X → B) B → X → B) (step' : Placed-F (X → B) B → B) where
   pub fold-struct : (place : Place) (s : Stmt) → fold-Placed (X → B) B step step' (record { place = place; stmt = s }) ≡ step' (record { place = place; stmt = fold-Stmt (X → B) B step step' s })

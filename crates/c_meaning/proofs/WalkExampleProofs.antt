@@ -2,7 +2,7 @@
 use Rattle.std.proofs.Common.{◌≡◌, refl, sym, ap, ◌∙◌, subst, ℕ, ℤ, pos, false, List, [], ◌∷◌, ◌++◌, length, map, Option, None, Some, arith}
 use Rattle.std.specs.Int.{int_wrap}
 use Rattle.std.specs.List.{Contains}
-use Rattle.std.specs.Option.{option_and_then, option_map, option_map_or}
+use Rattle.std.specs.Option.{option_and_then, option_map}
 use Rattle.gob_tree.specs.declared.expr.Width.TheVariants.{W32}
 use Rattle.gob_tree.specs.declared.expr.BinOp.TheVariants.{And}
 use Rattle.gob_tree.specs.declared.expr.Expr.{Local, Global, Binary}
@@ -10,7 +10,7 @@ use Rattle.gob_tree.specs.declared.stmt.Stmt as Stmt
 use Rattle.c_meaning.specs.declared.config.Choice.{Choice}
 use Rattle.c_meaning.specs.declared.config.Todo.TheVariants.{Stmt as Doing}
 use Rattle.c_meaning.specs.Graph.{FlowGraph, MarkedProgram, flow_of, hoisted_expr, marked_of, slots_with, graph_slots}
-use Rattle.c_meaning.specs.GraphStep.{Label, Do, Enter, Leave, func_slots}
+use Rattle.c_meaning.specs.GraphStep.{Do, Enter, Leave, func_slots}
 use Rattle.c_meaning.specs.Walk.{Begun, begun_of, Moment, Settled, Walked, walk_of, graph_run, labels_by, after_start, after_silent, after_choices, after_choice, walk_on, settled_from, moment_along, moment_with_input, Stands}
 use Rattle.gob_tree.specs.declared.unit.Unit.{Unit as TranslationUnit}
 use Rattle.c_meaning.specs.declared.config.Stepped.TheVariants.{Moved}
@@ -202,10 +202,10 @@ pub over_silent_edges : walk_of joining_unit joining_choices 1 ≡ Some joining_
 unfolding j3
 over_silent_edges = walk_by joining_unit joining_choices j3 1 joining_moves joining_run
 
-calling_marked : MarkedProgram
+unfoldable pub calling_marked : MarkedProgram
 calling_marked = calling_with called_flow calling_flow
 
-calling_marked_is : marked_of calling ≡ calling_marked
+pub calling_marked_is : marked_of calling ≡ calling_marked
 unfolding calling_marked
 calling_marked_is = ap (λ (d : FlowGraph). calling_with d (flow_of calling_main)) called_graph ∙ ap (λ (d : FlowGraph). calling_with called_flow d) call_in_expression
 

@@ -27,6 +27,12 @@ FinalStays =
     (e : Expr) (slots : List Slot) (values ins more : List ℤ) → IsFinal (demand_of e slots values ins).0
     → demand_of e slots values (ins ++ more) ≡ ((demand_of e slots values ins).0, (demand_of e slots values ins).1 ++ more)
 
+-- where an expression lacks an input, it has taken all that were there
+abbrev pub MissingTakesAll : Type 0
+MissingTakesAll =
+    (e : Expr) (slots : List Slot) (values ins : List ℤ) (missing : Demand) → (demand_of e slots values ins).0 ≡ Err missing
+    → missing ≢ Fault → (demand_of e slots values ins).1 ≡ []
+
 -- what is the same but for the thread itself, and at most one thing that threads share
 pub data ChangesAtMost (old : Config Frame) (t : ℕ) (new : Config Frame) : Type 0 where
   itself : (frames : List Frame) → new.globals ≡ old.globals → new.owners ≡ old.owners

@@ -1,7 +1,7 @@
 -- Expressions and runs of small programs, and what becomes of them, by hand.
 use Rattle.std.specs.Prelude.{ℤ, pos, negsuc, List, [], ◌∷◌, None, Some}
 use Rattle.gob_tree.specs.declared.expr.Width.TheVariants.{W32, W64}
-use Rattle.gob_tree.specs.declared.expr.BinOp.TheVariants.{Add, Div, Lt, And}
+use Rattle.gob_tree.specs.declared.expr.BinOp.TheVariants.{Add, Div, Lt, And, Or}
 use Rattle.gob_tree.specs.declared.expr.Expr.{Expr, Number, Local, Global, Nondet, Binary, Call}
 use Rattle.gob_tree.specs.declared.stmt.Target as Target
 use Rattle.gob_tree.specs.declared.stmt.Stmt as Stmt
@@ -59,6 +59,16 @@ early_fault = Binary Add zero_division (Global 0 W32)
 -- 0 && g
 abbrev pub early_stop : Expr
 early_stop = Binary And (int 0) (Global 0 W32)
+
+-- 1 || g, and 0 || g
+abbrev pub early_or : Expr
+early_or = Binary Or (int 1) (Global 0 W32)
+
+abbrev pub late_or : Expr
+late_or = Binary Or (int 0) (Global 0 W32)
+
+abbrev pub one_input : List ℤ
+one_input = pos 5 ∷ []
 
 -- ---- steps
 
@@ -187,14 +197,17 @@ abbrev pub waiting_answers : List Stepped
 waiting_answers = Moved ∷ Blocked ∷ Moved ∷ Ended ∷ Moved ∷ []
 
 -- int main(void) { for (int i = 0; i < 2; i++) { if (i) break; continue; } return 0; }
-abbrev pub turning : TranslationUnit
-turning = alone [] [] (int_func (int_slot ∷ int_slot ∷ []) []
+abbrev pub turning_main : Function
+turning_main = int_func (int_slot ∷ int_slot ∷ []) []
     (at 2 3 (Stmt.For
     (at 2 8 (Stmt.Declare 1 (Some (int 0))) ∷ [])
     (Some (Binary Lt (Local 1) (int 2)))
     (Some (at 2 26 (Stmt.Assign (Target.TheVariants.Local 1) (Binary Add (Local 1) (int 1)))))
     (at 2 31 (Stmt.Block (at 2 33 (Stmt.If (Local 1) (at 2 40 Stmt.Break) None) ∷ at 2 47 Stmt.Continue ∷ []))))
-    ∷ returns (int 0) ∷ []))
+    ∷ returns (int 0) ∷ [])
+
+abbrev pub turning : TranslationUnit
+turning = alone [] [] turning_main
 
 -- the first part, the test, the branch, `continue`, the last part, the test, the branch, `break`
 -- and the return

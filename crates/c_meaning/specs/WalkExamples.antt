@@ -2,7 +2,7 @@
 use Rattle.std.specs.Prelude.{ℕ, ℤ, pos, List, [], ◌∷◌, Option, None, Some}
 use Rattle.gob_tree.specs.declared.expr.Width.TheVariants.{W32}
 use Rattle.gob_tree.specs.declared.expr.BinOp.TheVariants.{Add, And}
-use Rattle.gob_tree.specs.declared.expr.Expr.{Local, Global, Binary}
+use Rattle.gob_tree.specs.declared.expr.Expr.{Local, Global, Binary, Call}
 use Rattle.gob_tree.specs.declared.stmt.Stmt.{Stmt}
 use Rattle.gob_tree.specs.declared.graph.Action.TheVariants.{Assign, Read, Write, Create, Call as CallEdge, Skip}
 use Rattle.c_meaning.specs.declared.config.Choice.{Choice}
@@ -162,5 +162,51 @@ joining_tree = record {
   } ∷ []) ∷ [];
 }
 
+-- with these values of g and x
+abbrev pub joining_moment_with : ℤ → ℤ → Config Graph.Frame
+joining_moment_with g x = record (joining_at 6 (pos 0 ∷ x ∷ pos 1 ∷ pos 5 ∷ []) []).config { globals = g ∷ [] }
+
 abbrev pub joining_moment : Config Graph.Frame
-joining_moment = (joining_at 6 (pos 0 ∷ pos 0 ∷ pos 1 ∷ pos 5 ∷ []) []).config
+joining_moment = joining_moment_with (pos 5) (pos 0)
+
+-- `int x = f(1);` inside of the call
+abbrev pub calling_tree : Config Frame
+calling_tree = record {
+  globals = [];
+  owners = [];
+  threads =
+      (record {
+        func = 0;
+        todo = Doing (at 1 16 (Stmt.Return (Some (Binary Add (Local 1) (int 1))))) ∷ [];
+        slots = pos 0 ∷ pos 1 ∷ [];
+        vars = [];
+        ins = [];
+      }
+      ∷ record {
+        func = 1;
+        todo = Doing (at 3 3 (Stmt.Declare 1 (Some (Call 0 W32 (int 1 ∷ []))))) ∷ Doing (returns (Local 1)) ∷ [];
+        slots = pos 0 ∷ pos 0 ∷ [];
+        vars = [];
+        ins = [];
+      }
+      ∷ [])
+      ∷ [];
+}
+
+-- where the caller waits at this edge
+abbrev pub calling_moment_at : Option ℕ → Config Graph.Frame
+calling_moment_at edge = (calling_at (called_frame ∷ calling_frame 2 (pos 0 ∷ pos 0 ∷ pos 0 ∷ []) edge ∷ []) []).config
+
+abbrev pub calling_moment : Config Graph.Frame
+calling_moment = calling_moment_at (Some 1)
+
+-- after `return 0;`, and a thread at this node
+abbrev pub ended_tree : Config Frame
+ended_tree = record { globals = []; owners = []; threads = [] ∷ [] }
+
+abbrev pub ended_moment : ℕ → Config Graph.Frame
+ended_moment node = record {
+  globals = [];
+  owners = [];
+  threads = (record { func = 0; node = node; slots = pos 0 ∷ []; vars = []; waits = None } ∷ []) ∷ [];
+}

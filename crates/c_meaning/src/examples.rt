@@ -15,6 +15,9 @@ ghost use Rattle.c_meaning.specs.StepExamples.{
   two_inputs,
   early_fault,
   early_stop,
+  early_or,
+  late_or,
+  one_input,
   first_choice,
   two_choices,
   late_choices,
@@ -60,6 +63,14 @@ ghost use Rattle.c_meaning.specs.GraphExamples.{
   joining_unit,
   looping,
   looping_flow,
+  splitting,
+  splitting_flow,
+  stepping,
+  stepping_flow,
+  sharing,
+  sharing_flow,
+  acting,
+  acting_flow,
 };
 ghost use Rattle.c_meaning.specs.WalkExamples.{
   called_flow,
@@ -71,6 +82,12 @@ ghost use Rattle.c_meaning.specs.WalkExamples.{
   joining_walk,
   joining_tree,
   joining_moment,
+  joining_moment_with,
+  calling_tree,
+  calling_moment,
+  calling_moment_at,
+  ended_tree,
+  ended_moment,
 };
 
 use crate::demand::Demand;
@@ -89,6 +106,8 @@ pub fn expressions_by_hand()
     ensures both_given { demand_of two_inputs [] [] (pos 5 ∷ pos 6 ∷ pos 7 ∷ []) ≡ (Ok (pos 11), pos 7 ∷ []) }
     ensures fault_before_input { value_of early_fault [] [] ≡ Err Demand.Fault }
     ensures stops_early { value_of early_stop [] [] ≡ Ok (pos 0) }
+    ensures or_stops_early { demand_of early_or [] [] one_input ≡ (Ok (pos 1), one_input) }
+    ensures or_goes_on { demand_of late_or [] [] one_input ≡ (Ok (pos 1), []) }
 {}
 
 /// Runs worked out by hand: a second lock of one's own mutex blocks; a thread that isn't there is
@@ -116,6 +135,10 @@ pub fn graphs_by_hand()
     ensures counting { flow_of counting ≡ counting_flow }
     ensures two_reads { flow_of doubling ≡ doubling_flow }
     ensures and_with_input { flow_of joining ≡ joining_flow }
+    ensures or_with_input { flow_of splitting ≡ splitting_flow }
+    ensures whole_for { flow_of stepping ≡ stepping_flow }
+    ensures two_widths { flow_of sharing ≡ sharing_flow }
+    ensures actions { flow_of acting ≡ acting_flow }
     ensures bare_for_and_do { flow_of looping ≡ looping_flow }
     ensures call_in_expression { flow_of calling_main ≡ calling_flow }
 {}
@@ -131,8 +154,22 @@ pub fn walks_by_hand()
 {}
 
 /// A tree and a graph at the same moment: after the read of `g` in `int x = 1 && g;` the graph
-/// stands at the node where the two ways of the `&&` join.
-pub fn moment_by_hand()
+/// stands at the node where the two ways of the `&&` join; inside a call; and after the end.
+pub fn moments_by_hand()
     ensures tree { left joining_unit first_choice ≡ joining_tree }
-    ensures stands { Stands joining_unit joining_tree joining_moment }
+    ensures over_silent_edges { Stands joining_unit joining_tree joining_moment }
+    ensures called_tree { left calling first_choice ≡ calling_tree }
+    ensures with_a_caller { Stands calling calling_tree calling_moment }
+    ensures ended_tree { left returning first_choice ≡ ended_tree }
+    ensures ended { Stands returning ended_tree (ended_moment 1) }
+{}
+
+/// What is no such moment: other globals, another value of a local, a caller that waits at no call,
+/// a caller that waits at an edge that is no call, and an ended thread that isn't at the exit.
+pub fn no_moments_by_hand()
+    ensures other_globals { ¬ Stands joining_unit joining_tree (joining_moment_with (pos 6) (pos 0)) }
+    ensures other_local { ¬ Stands joining_unit joining_tree (joining_moment_with (pos 5) (pos 3)) }
+    ensures caller_goes_on { ¬ Stands calling calling_tree (calling_moment_at None) }
+    ensures caller_at_no_call { ¬ Stands calling calling_tree (calling_moment_at (Some 2)) }
+    ensures ended_elsewhere { ¬ Stands returning ended_tree (ended_moment 2) }
 {}

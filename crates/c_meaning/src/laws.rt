@@ -1,8 +1,13 @@
-ghost use Rattle.c_meaning.specs.Laws.{FinalStays, SilentEdgesEnd, SilentEdgesRunOut, StepsChangeLittle, OnlyMovesChange, PrefixesAreRuns};
+ghost use Rattle.c_meaning.specs.Laws.{FinalStays, MissingTakesAll, SilentEdgesEnd, SilentEdgesRunOut, StepsChangeLittle, OnlyMovesChange, PrefixesAreRuns};
 
 /// Where an expression has a value or faults, it does the same with more inputs behind.
 pub fn final_answers_stay()
     ensures { FinalStays }
+{}
+
+/// Where an expression lacks an input, it has taken all inputs that were there.
+pub fn missing_takes_all()
+    ensures { MissingTakesAll }
 {}
 
 /// A step that moves changes its own thread and at most one of these: one global, the owner of

@@ -12,10 +12,11 @@ mod rows;
 pub use config::{Choice, Stepped, Todo};
 pub use demand::Demand;
 pub use examples::{
-    expressions_by_hand, graphs_by_hand, moment_by_hand, runs_by_hand, walks_by_hand,
+    expressions_by_hand, graphs_by_hand, moments_by_hand, no_moments_by_hand, runs_by_hand,
+    walks_by_hand,
 };
 pub use laws::{
-    final_answers_stay, only_moves_change, prefixes_are_runs, silent_edges_end,
+    final_answers_stay, missing_takes_all, only_moves_change, prefixes_are_runs, silent_edges_end,
     silent_edges_run_out, steps_change_little,
 };
 pub use rows::{expression_rows, graph_rows, unrolling_rows};

@@ -30,3 +30,9 @@ returns-clause-stops_early c = examples.stops_early
 
 pub returns-clause-int_and_long : goal.returns-clause-int_and_long
 returns-clause-int_and_long c = examples.int_and_long
+
+pub returns-clause-or_stops_early : goal.returns-clause-or_stops_early
+returns-clause-or_stops_early c = examples.or_stops_early
+
+pub returns-clause-or_goes_on : goal.returns-clause-or_goes_on
+returns-clause-or_goes_on c = examples.or_goes_on

@@ -15,3 +15,15 @@ returns-clause-bare_for_and_do c = examples.bare_for_and_do
 
 pub returns-clause-call_in_expression : goal.returns-clause-call_in_expression
 returns-clause-call_in_expression c = examples.call_in_expression
+
+pub returns-clause-or_with_input : goal.returns-clause-or_with_input
+returns-clause-or_with_input c = examples.or_with_input
+
+pub returns-clause-whole_for : goal.returns-clause-whole_for
+returns-clause-whole_for c = examples.whole_for
+
+pub returns-clause-actions : goal.returns-clause-actions
+returns-clause-actions c = examples.actions
+
+pub returns-clause-two_widths : goal.returns-clause-two_widths
+returns-clause-two_widths c = examples.two_widths
