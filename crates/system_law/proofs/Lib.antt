@@ -1,0 +1,16 @@
+pub mod Contributing
+pub mod Covering
+pub mod Entries
+pub mod Examples
+pub mod Fitting
+pub mod Guarded
+pub mod Locality
+pub mod Numbered
+pub mod Ordered
+pub mod Raising
+pub mod Replaying
+pub mod Rising
+pub mod Shaping
+pub mod SoundStart
+pub mod Turning
+pub mod Zeros
