@@ -11,7 +11,7 @@ use Rattle.gob_tree.specs.declared.unit.Function.{Function}
 use Rattle.gob_tree.specs.declared.graph.Action.{Action}
 use Rattle.gob_tree.specs.declared.graph.Action.TheVariants.{Guard, Skip}
 use Rattle.c_meaning.specs.Graph.{MarkedEdge, FlowGraph, Route, HoistState, Hoisted, Lowering, next_node, with_node, with_edge, with_silent, with_guards, hoisted_expr, hoisted_exprs, sequence, if_head, if_flow, while_head, while_flow, loop_route, first_route, last_route, do_flow, for_first, for_head, for_flow, condition, lowering_step, placed_step, lowering_of, first_flow, body_route, flow_of}
-use Rattle.c_meaning.specs.Laws.{SilentPath, last_edge as path_end, first_edge, SilentEdgesEnd}
+use Rattle.c_meaning.specs.Laws.{SilentPath, last_edge as path_end, first_edge, SilentEdgesEnd, SilentEdgesStayInside}
 use Rattle.gob_tree.proofs.Induct.{Each}
 use Rattle.c_meaning.proofs.Growth.{Ends, ends_append, ends_map, Ranked, ranked_into, ranked_out_of, Below, IsNew, adds_below, adds_then, adds_node, adds_silent, Grown, grown_then, grown_from, grown_node, node_more, grown_edge, each_at}
 use Rattle.c_meaning.proofs.SilentHoists.{Hoists, hoists_expr, hoists_exprs}
@@ -354,3 +354,17 @@ path_rises edges r from to (first_edge d end c s rest) =
 
 pub silent_edges_end : SilentEdgesEnd
 silent_edges_end f node path = let r = function_ranked f in absurd (omega (arith, path_rises (flow_of f).edges r node node path))
+
+-- all that is added to the first graph leads to a new node, and the first edge to node 2
+inside : (f : Function) → Ends (λ from to. 2 ≤ to) (flow_of f).edges
+inside f =
+    let g = (sequence_grows (map lowering_of f.body) (every_grows f.body) body_route (first_flow f) (omega arith)).adds in
+    subst (Ends (λ from to. 2 ≤ to)) (sym g.edges)
+    (ends_append (λ from to. 2 ≤ to) (first_flow f).edges g.added
+    ((λ s. omega arith), tt)
+    (ends_map (IsNew (next_node (first_flow f)) 2 (next_node (flow_of f))) (λ from to. 2 ≤ to) (λ from to e. omega (arith, e.0)) g.added g.ends))
+
+pub silent_edges_stay_inside : SilentEdgesStayInside
+silent_edges_stay_inside f d c s =
+    subst (λ (z : MarkedEdge). z.silent ≡ true → 2 ≤ z.edge.to) c.2
+    (each_at (λ z. z.silent ≡ true → 2 ≤ z.edge.to) (flow_of f).edges (inside f) c.0 d c.1) s

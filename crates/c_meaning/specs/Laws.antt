@@ -1,5 +1,5 @@
 -- Laws of the definitions.
-use Rattle.std.specs.Prelude.{◌≡◌, ◌≢◌, ℕ, ℤ, true, List, [], ◌∷◌, ◌++◌, Option, None, Result, Ok, Err, slice_set}
+use Rattle.std.specs.Prelude.{◌≡◌, ◌≢◌, ◌≤◌, ℕ, ℤ, true, List, [], ◌∷◌, ◌++◌, Option, None, Result, Ok, Err, slice_set}
 use Rattle.gob_tree.specs.declared.expr.Expr.{Expr}
 use Rattle.std.specs.List.{Contains}
 use Rattle.gob_tree.specs.declared.unit.Slot.{Slot}
@@ -72,6 +72,10 @@ pub data SilentPath (edges : List MarkedEdge) : ℕ → ℕ → Type 0 where
 -- the silent edges of a function form no circle
 abbrev pub SilentEdgesEnd : Type 0
 SilentEdgesEnd = (f : Function) (node : ℕ) → ¬ SilentPath (flow_of f).edges node node
+
+-- no silent edge leads to the exit: each ends where the body starts or at a node after that
+abbrev pub SilentEdgesStayInside : Type 0
+SilentEdgesStayInside = (f : Function) (d : MarkedEdge) → Contains (flow_of f).edges d → d.silent ≡ true → 2 ≤ d.edge.to
 
 -- where a thread has done silent edges while it could, no silent edge can be done
 abbrev pub SilentEdgesRunOut : Type 0

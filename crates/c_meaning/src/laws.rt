@@ -1,4 +1,4 @@
-ghost use Rattle.c_meaning.specs.Laws.{FinalStays, MissingTakesAll, SilentEdgesEnd, SilentEdgesRunOut, StepsChangeLittle, OnlyMovesChange, PrefixesAreRuns};
+ghost use Rattle.c_meaning.specs.Laws.{FinalStays, MissingTakesAll, SilentEdgesEnd, SilentEdgesRunOut, SilentEdgesStayInside, StepsChangeLittle, OnlyMovesChange, PrefixesAreRuns};
 
 /// Where an expression has a value or faults, it does the same with more inputs behind.
 pub fn final_answers_stay()
@@ -35,4 +35,9 @@ pub fn silent_edges_end()
 /// A thread that does silent edges while one can be done comes to where none can.
 pub fn silent_edges_run_out()
     ensures { SilentEdgesRunOut }
+{}
+
+/// No silent edge leads to the exit, so a thread never ends and never leaves a frame by one.
+pub fn silent_edges_stay_inside()
+    ensures { SilentEdgesStayInside }
 {}

@@ -17,6 +17,6 @@ pub use examples::{
 };
 pub use laws::{
     final_answers_stay, missing_takes_all, only_moves_change, prefixes_are_runs, silent_edges_end,
-    silent_edges_run_out, steps_change_little,
+    silent_edges_run_out, silent_edges_stay_inside, steps_change_little,
 };
 pub use rows::{expression_rows, graph_rows, unrolling_rows};
