@@ -1,2 +1,4 @@
 pub mod Breaks
 pub mod Contents
+pub mod NoFloats
+pub mod TextFacts

@@ -1,8 +1,11 @@
 pub mod Breakpoints
 pub mod Fields
 pub mod Kinds
+pub mod MessageTexts
+pub mod Messages
 pub mod Names
 pub mod Readings
 pub mod Requests
+pub mod Sound
 pub mod Table
 pub mod Texts

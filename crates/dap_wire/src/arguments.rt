@@ -1,9 +1,10 @@
-ghost use Rattle.std.specs.Prelude.{◌≡◌, true, IfOk, IsUtf8};
+ghost use Rattle.std.specs.Prelude.{◌≡◌, true, IfOk};
 ghost use Rattle.serde_json.specs.View.{view};
 ghost use Rattle.dap_wire.specs.declared.request.Granularity.TheVariants.{Statement};
 ghost use Rattle.dap_wire.specs.Fields.{needed, defaulted, optional};
 ghost use Rattle.dap_wire.specs.Kinds.{whole, whole_from, flag, yes, text, granularity_named, granularity};
 ghost use Rattle.dap_wire.specs.Readings.{IsReading};
+ghost use Rattle.dap_wire.specs.Texts.{IsText};
 
 use crate::field::Field;
 use crate::request::Granularity;
@@ -106,9 +107,10 @@ pub(crate) fn granularity(arguments: &Value) -> Result<Granularity, Field>
 }
 
 /// A text that has to be there.
+#[tactic(auto, using(crate::proofs::TextFacts::utf8_text))]
 pub(crate) fn needed_text(alloc: Global, arguments: &Value, field: Field) -> Result<Text, Unread>
     ensures reading { IsReading result (needed text field (view arguments.now)) }
-    ensures utf8 { IfOk result (λ t. IsUtf8 t) }
+    ensures utf8 { IfOk result IsText }
 {
     let Some(value) = arguments.get(field.key()) else {
         return Err(Unread::Wrong(field));

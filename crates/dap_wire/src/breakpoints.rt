@@ -1,9 +1,10 @@
-ghost use Rattle.std.specs.Prelude.{◌≡◌, [], Some, None, option_map, IfOk, IfSome, All, IsUtf8};
+ghost use Rattle.std.specs.Prelude.{◌≡◌, ◌≤◌, [], Some, None, option_map, length, IfOk, IfSome, All};
 ghost use Rattle.serde_json.specs.View.{view, items_view};
 ghost use Rattle.dap_wire.specs.Breakpoints.{condition, breakpoint, each_breakpoint, breakpoint_list, breakpoints};
 ghost use Rattle.dap_wire.specs.Fields.{defaulted};
 ghost use Rattle.dap_wire.specs.Readings.{IsReading};
-ghost use Rattle.dap_wire.specs.Texts.{IsBreakText};
+ghost use Rattle.dap_wire.specs.Sound.{IsBreakText, AreBreakpoints};
+ghost use Rattle.dap_wire.specs.Texts.{IsText};
 
 use crate::arguments::whole_from;
 use crate::field::Field;
@@ -19,7 +20,7 @@ const MOST_BREAKPOINTS: usize = 256;
 /// The breakpoints of a request, none where they are missing.
 pub(crate) fn breakpoints(alloc: Global, arguments: &Value) -> Result<Seq<BreakAsk>, Unread>
     ensures reading { IsReading result (defaulted breakpoints [] Field.Breakpoints (view arguments.now)) }
-    ensures utf8 { IfOk result (λ list. All IsBreakText list) }
+    ensures sound { IfOk result AreBreakpoints }
 {
     let Some(value) = arguments.get(Field::Breakpoints.key()) else {
         return Ok(Seq::new(alloc));
@@ -37,7 +38,7 @@ pub(crate) fn breakpoints(alloc: Global, arguments: &Value) -> Result<Seq<BreakA
 #[tactic(auto, using(crate::proofs::Breaks::count_of_items))]
 fn breakpoint_list(alloc: Global, items: &[Value]) -> Result<Option<Seq<BreakAsk>>, Memory>
     ensures reading { IfOk result (λ o. o ≡ breakpoint_list (items_view items.now)) }
-    ensures utf8 { IfOk result (λ o. IfSome o (λ list. All IsBreakText list)) }
+    ensures sound { IfOk result (λ o. IfSome o AreBreakpoints) }
 {
     if items.len() > MOST_BREAKPOINTS {
         return Ok(None);
@@ -50,6 +51,7 @@ fn breakpoint_list(alloc: Global, items: &[Value]) -> Result<Option<Seq<BreakAsk
 fn each_breakpoint(alloc: Global, items: &[Value]) -> Result<Option<Seq<BreakAsk>>, Memory>
     ensures reading { IfOk result (λ o. o ≡ each_breakpoint (items_view items.now)) }
     ensures utf8 { IfOk result (λ o. IfSome o (λ list. All IsBreakText list)) }
+    ensures few { IfOk result (λ o. IfSome o (λ list. length list ≤ length items.now)) }
 {
     let mut list = Seq::new(alloc);
     for item in items {
@@ -76,9 +78,10 @@ fn breakpoint(alloc: Global, item: &Value) -> Result<Option<BreakAsk>, Memory>
 }
 
 /// The condition of a breakpoint, which may be missing.
+#[tactic(auto, using(crate::proofs::TextFacts::utf8_text))]
 fn condition(alloc: Global, found: Option<&Value>) -> Result<Option<Option<Text>>, Memory>
     ensures reading { IfOk result (λ o. o ≡ condition (option_map (λ v. view v.now) found.entry)) }
-    ensures utf8 { IfOk result (λ o. IfSome o (λ c. IfSome c (λ t. IsUtf8 t))) }
+    ensures utf8 { IfOk result (λ o. IfSome o (λ c. IfSome c IsText)) }
 {
     let Some(value) = found else {
         return Ok(Some(None));

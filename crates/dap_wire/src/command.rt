@@ -2,7 +2,7 @@ ghost use Rattle.std.specs.Prelude.{◌≡◌, IfOk};
 ghost use Rattle.serde_json.specs.View.{view};
 ghost use Rattle.dap_wire.specs.Readings.{IsReading};
 ghost use Rattle.dap_wire.specs.Table.{command_of};
-ghost use Rattle.dap_wire.specs.Texts.{AreTexts};
+ghost use Rattle.dap_wire.specs.Sound.{IsSoundCommand};
 
 use crate::arguments::{
     flag_or_true, granularity, needed_text, needed_whole, only_true, optional_whole, whole_or_zero,
@@ -22,7 +22,7 @@ pub(crate) fn command_of(
     arguments: &Value,
 ) -> Result<Command, Unread>
     ensures reading { IsReading result (command_of name (view arguments.now)) }
-    ensures utf8 { IfOk result AreTexts }
+    ensures sound { IfOk result IsSoundCommand }
 {
     match name {
         CommandName::Initialize => Ok(initialize(arguments)?),
@@ -67,7 +67,7 @@ pub(crate) fn command_of(
 
 fn initialize(arguments: &Value) -> Result<Command, Field>
     ensures reading { result ≡ command_of CommandName.Initialize (view arguments.now) }
-    ensures utf8 { IfOk result AreTexts }
+    ensures sound { IfOk result IsSoundCommand }
 {
     only_true(arguments, Field::LinesStartAt1)?;
     only_true(arguments, Field::ColumnsStartAt1)?;
@@ -76,7 +76,7 @@ fn initialize(arguments: &Value) -> Result<Command, Field>
 
 fn stack_trace(arguments: &Value) -> Result<Command, Field>
     ensures reading { result ≡ command_of CommandName.StackTrace (view arguments.now) }
-    ensures utf8 { IfOk result AreTexts }
+    ensures sound { IfOk result IsSoundCommand }
 {
     let thread = needed_whole(arguments, Field::ThreadId, 0)?;
     let start = whole_or_zero(arguments, Field::StartFrame)?;
@@ -90,7 +90,7 @@ fn stack_trace(arguments: &Value) -> Result<Command, Field>
 
 fn evaluate(alloc: Global, arguments: &Value) -> Result<Command, Unread>
     ensures reading { IsReading result (command_of CommandName.Evaluate (view arguments.now)) }
-    ensures utf8 { IfOk result AreTexts }
+    ensures sound { IfOk result IsSoundCommand }
 {
     let expression = needed_text(alloc, arguments, Field::Expression)?;
     let frame = optional_whole(arguments, Field::FrameId)?;
@@ -99,7 +99,7 @@ fn evaluate(alloc: Global, arguments: &Value) -> Result<Command, Unread>
 
 fn next(arguments: &Value) -> Result<Command, Field>
     ensures reading { result ≡ command_of CommandName.Next (view arguments.now) }
-    ensures utf8 { IfOk result AreTexts }
+    ensures sound { IfOk result IsSoundCommand }
 {
     let thread = needed_whole(arguments, Field::ThreadId, 0)?;
     let granularity = granularity(arguments)?;
@@ -111,7 +111,7 @@ fn next(arguments: &Value) -> Result<Command, Field>
 
 fn step_in(arguments: &Value) -> Result<Command, Field>
     ensures reading { result ≡ command_of CommandName.StepIn (view arguments.now) }
-    ensures utf8 { IfOk result AreTexts }
+    ensures sound { IfOk result IsSoundCommand }
 {
     let thread = needed_whole(arguments, Field::ThreadId, 0)?;
     let target = optional_whole(arguments, Field::TargetId)?;
@@ -125,7 +125,7 @@ fn step_in(arguments: &Value) -> Result<Command, Field>
 
 fn step_out(arguments: &Value) -> Result<Command, Field>
     ensures reading { result ≡ command_of CommandName.StepOut (view arguments.now) }
-    ensures utf8 { IfOk result AreTexts }
+    ensures sound { IfOk result IsSoundCommand }
 {
     let thread = needed_whole(arguments, Field::ThreadId, 0)?;
     let granularity = granularity(arguments)?;
@@ -137,7 +137,7 @@ fn step_out(arguments: &Value) -> Result<Command, Field>
 
 fn step_back(arguments: &Value) -> Result<Command, Field>
     ensures reading { result ≡ command_of CommandName.StepBack (view arguments.now) }
-    ensures utf8 { IfOk result AreTexts }
+    ensures sound { IfOk result IsSoundCommand }
 {
     let thread = needed_whole(arguments, Field::ThreadId, 0)?;
     let granularity = granularity(arguments)?;

@@ -1,8 +1,8 @@
-ghost use Rattle.std.specs.Prelude.{◌≡◌, ◌≢◌, Some, None, Ok, Err, option_map, IfOk, IfErr, IfSome, IsUtf8};
+ghost use Rattle.std.specs.Prelude.{◌≡◌, ◌≢◌, Some, None, Ok, Err, option_map, IfOk, IfErr};
 ghost use Rattle.serde_json.specs.View.{view};
 ghost use Rattle.dap_wire.specs.Names.{command_named};
 ghost use Rattle.dap_wire.specs.Requests.{value_of, head_of, arguments_of, by_name, request_of};
-ghost use Rattle.dap_wire.specs.Texts.{AreTexts, IsFaultText};
+ghost use Rattle.dap_wire.specs.Sound.{IsSoundCommand, IsSoundFault};
 
 use crate::arguments::whole_from;
 use crate::command::command_of;
@@ -21,8 +21,8 @@ use std::alloc::Global;
 pub fn read_request(alloc: Global, content: &[u8]) -> Result<Ask, WireFault>
     ensures ok { IfOk result (λ ask. request_of content.now ≡ Ok ask) }
     ensures err { IfErr result (λ fault. fault ≢ WireFault.Memory → request_of content.now ≡ Err fault) }
-    ensures texts { IfOk result (λ ask. AreTexts ask.command) }
-    ensures fault_texts { IfErr result IsFaultText }
+    ensures sound { IfOk result (λ ask. IsSoundCommand ask.command) }
+    ensures sound_fault { IfErr result IsSoundFault }
 {
     let value = value_of(alloc, content)?;
     let Some((seq, name)) = head_of(&value) else {
@@ -39,7 +39,7 @@ fn value_of(alloc: Global, content: &[u8]) -> Result<Value, WireFault>
     ensures ok { IfOk result (λ v. value_of content.now ≡ Some (view v)) }
     ensures err { IfErr result (λ fault. fault ≢ WireFault.Memory → value_of content.now ≡ None) }
     ensures json { IfErr result (λ fault. fault ≢ WireFault.Memory → fault ≡ WireFault.NotJson) }
-    ensures texts { IfErr result IsFaultText }
+    ensures sound_fault { IfErr result IsSoundFault }
 {
     match Value::from_slice(alloc, content) {
         Ok(value) => Ok(value),
@@ -66,12 +66,13 @@ fn head_of(value: &Value) -> Option<(u32, &str)>
 }
 
 /// The request of this number and name.
+#[tactic(auto, using(crate::proofs::TextFacts::utf8_text))]
 fn request_by_name(alloc: Global, seq: u32, name: &str, arguments: &Value) -> Result<Ask, WireFault>
     ensures ok { IfOk result (λ ask. by_name seq name.now (command_named name.now) (view arguments.now) ≡ Ok ask) }
     ensures err { IfErr result (λ fault. fault ≢ WireFault.Memory
         → by_name seq name.now (command_named name.now) (view arguments.now) ≡ Err fault) }
-    ensures texts { IfOk result (λ ask. AreTexts ask.command) }
-    ensures fault_texts { IfErr result IsFaultText }
+    ensures sound { IfOk result (λ ask. IsSoundCommand ask.command) }
+    ensures sound_fault { IfErr result IsSoundFault }
 {
     let Some(command) = command_named(name) else {
         let command = Text::of(alloc, name.as_bytes())?;
