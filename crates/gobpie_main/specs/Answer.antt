@@ -1,5 +1,5 @@
 -- What `analyse` answers for a text, and what it writes.
-use Rattle.std.specs.Prelude.{◌≡◌, ◌≢◌, ◌⊎◌, ℕ, ◌<◌, ◌≤◌, nat_le, List, [], ◌++◌, length, take, codes, Option, None, Some, option_map, if◌then◌else◌}
+use Rattle.std.specs.Prelude.{◌≡◌, ◌≢◌, ◌⊎◌, ℕ, ◌<◌, ◌≤◌, nat_le, List, [], ◌++◌, length, take, codes, decimal, Option, None, Some, option_map, if◌then◌else◌}
 use Rattle.gob_tree.specs.declared.graph.Program.{Program}
 use Rattle.gob_outside.specs.Count.{Rose}
 use Rattle.c_lone.specs.LoneProgram.{IsLoneProgram}
@@ -8,31 +8,31 @@ use Rattle.constraint_sys.specs.Turn.{Replays, Solving, initial_of}
 use Rattle.constraint_sys.specs.declared.unknown.Unknown.{Unknown}
 use Rattle.edition_core.specs.Printed.{printed}
 
--- The bytes are the printed table of a post-solution of the program, which at most 100,000 recorded
+-- The bytes are the printed table of a post-solution of the program, which at most `budget` recorded
 -- turns give from the initial table, and `complete`.
-pub record Completes (p : Program) (bytes : List ℕ) : Type 0 where
+pub record Completes (p : Program) (budget : ℕ) (bytes : List ℕ) : Type 0 where
   pub trace : List Unknown
   pub solved : Solving
   pub replayed : Replays p (initial_of p) trace solved
-  pub within_budget : length trace ≤ 100000
+  pub within_budget : length trace ≤ budget
   pub clean : solved.dirty ≡ []
   pub post_solution : IsPostSolution p solved.table
   pub bytes_are : bytes ≡ printed p solved.table ++ codes "complete\n"
 
--- exactly 100,000 turns from the initial table leave something dirty
-pub record Spends (p : Program) : Type 0 where
+-- exactly `budget` turns from the initial table leave something dirty
+pub record Spends (p : Program) (budget : ℕ) : Type 0 where
   pub trace : List Unknown
   pub left : Solving
   pub replayed : Replays p (initial_of p) trace left
-  pub whole_budget : length trace ≡ 100000
+  pub whole_budget : length trace ≡ budget
   pub dirty : left.dirty ≢ []
 
 -- the text has a program whose table the bytes print
-abbrev pub TextCompletes : List ℕ → List ℕ → Type 0
-TextCompletes text bytes = (p : Program) × IsLoneProgram text p × Completes p bytes
+abbrev pub TextCompletes : List ℕ → ℕ → List ℕ → Type 0
+TextCompletes text budget bytes = (p : Program) × IsLoneProgram text p × Completes p budget bytes
 
-abbrev pub TextSpends : List ℕ → Type 0
-TextSpends text = (p : Program) × IsLoneProgram text p × Spends p
+abbrev pub TextSpends : List ℕ → ℕ → Type 0
+TextSpends text budget = (p : Program) × IsLoneProgram text p × Spends p budget
 
 -- a text that isn't taken: it is too long, or has no program
 abbrev pub IsRefused : List ℕ → Type 0
@@ -52,8 +52,8 @@ read_fault_line = codes "read fault\n"
 abbrev pub memory_line : List ℕ
 memory_line = codes "memory\n"
 
-abbrev pub spent_line : List ℕ
-spent_line = codes "spent 100000\n"
+abbrev pub spent_line : ℕ → List ℕ
+spent_line budget = codes "spent " ++ decimal budget ++ codes "\n"
 
 abbrev pub too_long_line : List ℕ
 too_long_line = codes "refused 1:1 TooLong\n"

@@ -1,5 +1,6 @@
 pub mod Answer
+pub mod Arguments
 pub mod Batch
+pub mod Command
 pub mod Numbers
-pub mod Reading
 pub mod Reports

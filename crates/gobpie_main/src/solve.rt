@@ -11,10 +11,7 @@ use gob_tree::{Memory, Program, Seq};
 use state_dom::Thresholds;
 use std::alloc::Global;
 
-/// The most turns that one analysis makes.
-pub const BUDGET: u64 = 100_000;
-
-/// Takes the first dirty unknown until none is left or the budget ends, and gives the trace of the
+/// Takes the first dirty unknown until none is left or `budget` turns are made, and gives the trace of the
 /// turns. `Memory` is want of memory.
 pub fn solve(
     alloc: Global,
@@ -22,6 +19,7 @@ pub fn solve(
     marks: &Thresholds,
     table: &mut Table,
     dirty: &mut Dirty,
+    budget: u64,
 ) -> Result<Seq<Unknown>, Memory>
     requires formed { IsFormed program.now }
     requires built { HasBuiltActions program.now }
@@ -29,11 +27,11 @@ pub fn solve(
     requires sound { IsSound program.now (record { table = table.old; dirty = dirty.old }) }
     ensures replayed { IfOk result (λ trace. Replays program.now (record { table = table.old; dirty = dirty.old }) trace (record { table = table.new; dirty = dirty.new })) }
     ensures sound { IfOk result (λ trace. IsSound program.now (record { table = table.new; dirty = dirty.new })) }
-    ensures budget { IfOk result (λ trace. length trace ≤ BUDGET) }
-    ensures done { IfOk result (λ trace. length trace < BUDGET → dirty.new ≡ []) }
+    ensures budget { IfOk result (λ trace. length trace ≤ budget) }
+    ensures done { IfOk result (λ trace. length trace < budget → dirty.new ≡ []) }
 {
     let mut trace = Seq::new(alloc);
-    for _i in 0..BUDGET {
+    for _i in 0..budget {
         let first = dirty.first();
         let Some(u) = &first else {
             break;

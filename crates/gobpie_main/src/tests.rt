@@ -1,8 +1,13 @@
+ghost use Rattle.std.specs.Prelude.{Some};
+
+use crate::arguments::Arguments;
 use crate::batch::run_batch;
+use crate::edge::run_arguments;
 use crate::status::Status;
 use gob_outside::{MemFiles, MemSink};
-use gob_tree::Text;
+use gob_tree::{Memory, Text};
 use std::alloc::Global;
+use std::process::ExitCode;
 use std::test::Fail;
 
 const NAME: &str = "lone.c";
@@ -175,18 +180,97 @@ fn texts_have_at_most_65536_bytes(rt: HostRuntime) -> Result<(), Fail> {
 
 #[test]
 fn words_without_a_reading_give_the_usage_line(rt: HostRuntime) -> Result<(), Fail> {
-    let lists: [&[&str]; 5] = [
+    let lists: [&[&str]; 6] = [
         &[],
         &["analyse"],
-        &["analyse", "-x"],
-        &["analyse", ""],
+        &["analyse", NAME, NAME],
+        &["analyse", NAME, "--budget=0"],
         &["solve", NAME],
+        &["debug", NAME],
     ];
     for list in lists {
         let ran = run_with(rt.alloc(), list, SUMS, NO_FAULTS)?;
         assert_eq!(rt; ran.status.number(), 2);
         let line = b"usage: gobpie analyse|run|replay|load|debug|serve\n";
         assert_eq!(rt; ran.written.as_slice(), line.as_slice());
+    }
+    Ok(())
+}
+
+#[test]
+fn a_budget_that_does_not_suffice_is_spent(rt: HostRuntime) -> Result<(), Fail> {
+    // Four nodes are dirty at first, so three turns can't end it.
+    let spent = run_with(
+        rt.alloc(),
+        &["analyse", "--budget", "3", NAME],
+        SUMS,
+        NO_FAULTS,
+    )?;
+    assert_eq!(rt; spent.status.number(), 7);
+    assert_eq!(rt; spent.written.as_slice(), b"spent 3\n".as_slice());
+    let ample = run_with(
+        rt.alloc(),
+        &["analyse", NAME, "--budget=10000000"],
+        SUMS,
+        NO_FAULTS,
+    )?;
+    assert_eq!(rt; ample.written.as_slice(), SUMS_TABLE);
+    Ok(())
+}
+
+/// Arguments in memory.
+#[derive(Drop)]
+struct MemArguments {
+    all: Vec<Text>,
+}
+
+impl Arguments for MemArguments {
+    ghost told = { λ arguments. Some arguments.all.items };
+
+    fn argument(&self, alloc: Global, place: usize) -> Result<Option<Text>, Memory> {
+        match self.all.get(place) {
+            Some(argument) => {
+                let copy = argument.copy(alloc)?;
+                Ok(Some(copy))
+            }
+            None => Ok(None),
+        }
+    }
+}
+
+/// How the program ends that is started with these arguments.
+fn ended(alloc: Global, arguments: &[&[u8]]) -> Result<ExitCode, Fail> {
+    let mut all = Vec::new(alloc);
+    for argument in arguments {
+        all.push(Text::of(alloc, *argument)?)?;
+    }
+    let mut held = Vec::new(alloc);
+    held.push((
+        Text::of(alloc, NAME.as_bytes())?,
+        Vec::from_slice(alloc, SUMS)?,
+    ))?;
+    let mut files = MemFiles::new(alloc, held, Vec::new(alloc))?;
+    let mut out = MemSink::new(alloc, ROOM, 7, Vec::new(alloc))?;
+    Ok(run_arguments(alloc, &MemArguments { all }, &mut files, &mut out))
+}
+
+#[test]
+fn the_words_are_all_arguments_but_the_name(rt: HostRuntime) -> Result<(), Fail> {
+    let rows: [(&[&[u8]], u8); 8] = [
+        (&[], 2),
+        (&[b"gobpie"], 2),
+        (&[b"gobpie", b"analyse", b"lone.c"], 0),
+        (&[b"\xff", b"analyse", b"lone.c"], 0),
+        (&[b"gobpie", b"analyse", b"\xff"], 2),
+        (&[b"gobpie", b"analyse", b"lone.c", b"\xff"], 2),
+        (&[b"gobpie", b"analyse", b"lone.c", b"lone.c"], 2),
+        (&[b"gobpie", b"analyse", b"lone.c", b"--budget", b"3"], 7),
+    ];
+    for (arguments, wanted) in rows {
+        assert!(rt;
+            ended(rt.alloc(), arguments)? == ExitCode::from(wanted),
+            "{wanted}"
+        );
     }
     Ok(())
 }

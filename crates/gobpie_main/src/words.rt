@@ -1,37 +1,39 @@
 //! The reading of the program's words.
-ghost use Rattle.std.specs.Prelude.{◌≡◌, ◌↔◌, ℕ, List, None, IfSome, IsTrue, codes};
-ghost use Rattle.gobpie_main.specs.Reading.{AsksFor, IsFileWord};
+ghost use Rattle.std.specs.Prelude.{◌≡◌, IfOk, IfSome, IsUtf8};
+ghost use Rattle.command_words.specs.Names.{NamesAreText};
+ghost use Rattle.gobpie_main.specs.Command.{command_of, is_built};
 
-use gob_tree::Text;
+use command_words::{CommandLine, read_command};
+use gob_tree::{Memory, Text};
+use std::alloc::Global;
 
-/// The word FILE of `analyse FILE`; `None` exactly where the words have no reading.
-pub fn file_word(words: &[Text]) -> Option<&str>
-    ensures named { IfSome result (λ name. AsksFor words.now name.now) }
-    ensures none { (file : List ℕ) → result ≡ None → AsksFor words.now file → ⊥ }
+/// What the words ask for, of the commands that are built; `None` exactly where they have no
+/// reading, or ask for a command that isn't built. `Memory` is want of memory.
+pub fn command_of(alloc: Global, words: &[Text]) -> Result<Option<CommandLine>, Memory>
+    ensures reading { IfOk result (λ o. o ≡ command_of words.now) }
+    ensures names { IfOk result (λ o. IfSome o NamesAreText) }
 {
-    match words {
-        [command, file] if is_analyse(command) => {
-            let name = as_file(file)?;
-            Some(name)
+    match read_command(alloc, words)? {
+        Some(line) => {
+            if is_built(&line) {
+                Ok(Some(line))
+            } else {
+                Ok(None)
+            }
         }
-        _ => None,
+        None => Ok(None),
     }
 }
 
-fn is_analyse(word: &Text) -> bool
-    ensures { IsTrue result ↔ (word.now ≡ codes "analyse") }
+fn is_built(line: &CommandLine) -> bool
+    ensures { result ≡ is_built line.now }
 {
-    word.as_bytes() == b"analyse".as_slice()
-}
-
-/// The word as a file's name: UTF-8, not empty, and without a `-` in front.
-fn as_file(word: &Text) -> Option<&str>
-    ensures named { IfSome result (λ name. (name.now ≡ word.now) × IsFileWord word.now) }
-    ensures none { result ≡ None → IsFileWord word.now → ⊥ }
-{
-    let bytes = word.as_bytes();
-    if bytes.is_empty() || bytes[0] == b'-' {
-        return None;
+    match line {
+        CommandLine::Analyse { .. } => true,
+        CommandLine::Run { .. }
+        | CommandLine::Replay { .. }
+        | CommandLine::Load { .. }
+        | CommandLine::Debug { .. }
+        | CommandLine::Serve { .. } => false,
     }
-    word.as_str()
 }

@@ -6,7 +6,7 @@ use Rattle.gobpie_main.proofs.batch.analyse.Goals as goal
 pub returns-in-Ok-clause-answer : goal.returns-in-Ok-clause-answer
 returns-in-Ok-clause-answer g c = λ text told.
     let same = c.as_slice.ensures.value ∙ loaded_text _ c.args.name.now c.in-Ok.text.items text c.in-Ok.ensures.loaded told in
-    subst (λ (l : List ℕ). AnswersText l c.analyse_text.result (g.O.Sink.written c.args.out.now) (g.O.Sink.written c.analyse_text.new.out) (g.O.Sink.write_faults c.args.out.now) (g.O.Sink.write_faults c.analyse_text.new.out)) same c.analyse_text.ensures.answer
+    subst (λ (l : List ℕ). AnswersText l c.args.budget c.analyse_text.result (g.O.Sink.written c.args.out.now) (g.O.Sink.written c.analyse_text.new.out) (g.O.Sink.write_faults c.args.out.now) (g.O.Sink.write_faults c.analyse_text.new.out)) same c.analyse_text.ensures.answer
 
 pub returns-in-Err-TooLong-clause-answer : goal.returns-in-Err-TooLong-clause-answer
 returns-in-Err-TooLong-clause-answer g c = λ text told.

@@ -1,0 +1,8 @@
+//! The program `gobpie`.
+#![tactic(auto)]
+
+use std::process::ExitCode;
+
+fn main(rt: HostRuntime) -> ExitCode {
+    gobpie_main::program(&rt)
+}

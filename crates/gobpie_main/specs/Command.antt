@@ -1,0 +1,19 @@
+-- The reading of words, cut to the commands that are built.
+use Rattle.std.specs.Prelude.{Bool, true, false, List, Option, Some, None, option_and_then, if◌then◌else◌}
+use Rattle.command_words.specs.Reading.{Word}
+use Rattle.command_words.specs.CommandLines.{command_reading}
+use Rattle.command_words.specs.declared.line.CommandLine.{CommandLine}
+use Rattle.command_words.specs.declared.line.CommandLine.TheVariants.{Analyse, Run, Replay, Load, Debug, Serve}
+
+-- the commands that are built
+abbrev pub is_built : CommandLine → Bool
+is_built (Analyse file budget) = true
+is_built (Run file schedule) = false
+is_built (Replay script) = false
+is_built (Load seed functions) = false
+is_built (Debug file budget) = false
+is_built (Serve file hands rounds port budget) = false
+
+-- a command that isn't built yet has no reading
+abbrev pub command_of : List Word → Option CommandLine
+command_of words = option_and_then (λ line. if is_built line then Some line else None) (command_reading words)

@@ -1,0 +1,19 @@
+//! The top call: what a line of words asks for, done over files and a sink, with a status for each
+//! way to end; and the edge at which the system gives the words and takes the exit status.
+#![tactic(auto)]
+
+mod arguments;
+mod batch;
+mod edge;
+mod report;
+mod solve;
+mod status;
+#[cfg(test)]
+mod tests;
+mod words;
+
+pub use arguments::{Arguments, StdArguments};
+pub use batch::run_batch;
+pub use edge::{program, run_arguments};
+pub use status::Status;
+pub use words::command_of;
