@@ -4,8 +4,7 @@ use Rattle.std.proofs.Math.Seq.{take-suc}
 use Rattle.std.proofs.lemmas.Option.{get_or_from_slice_get, slice_get_within, slice_get_read}
 use Rattle.gob_tree.specs.declared.unit.Slot.{Slot}
 use Rattle.interval_dom.specs.Bounds.{Bounds}
-use Rattle.state_dom.specs.StateValue.{StateValue, Bottom, Reached, slots_of, is_reached}
-use Rattle.constraint_sys.specs.Sound.{FitsEach, HasShape}
+use Rattle.state_dom.specs.StateValue.{StateValue, Bottom, Reached, FitsEach, HasShape, slots_of, is_reached}
 use Rattle.edition_core.specs.Labels.{labels_of, labels_after, label_of, count_of_name}
 use Rattle.edition_core.specs.Printed.{slots_text, slot_text}
 

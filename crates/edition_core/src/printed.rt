@@ -2,8 +2,8 @@
 ghost use Rattle.std.specs.Prelude.{◌≡◌, ◌<◌, ◌≤◌, ◌++◌, [], Some, IfOk, OnOk, codes, decimal, length, slice_get, map, if◌then◌else◌, nat_eq, true};
 ghost use Rattle.gob_tree.specs.Formed.{IsFormed, IsFormedFunction};
 ghost use Rattle.gob_tree.specs.declared.graph.FuncGraph.{FuncGraph as TheFunction};
-ghost use Rattle.state_dom.specs.StateValue.{is_reached, slots_of, locks_of};
-ghost use Rattle.constraint_sys.specs.Sound.{IsShaped, IsShapedEntry, HasShape};
+ghost use Rattle.state_dom.specs.StateValue.{HasShape, is_reached, slots_of, locks_of};
+ghost use Rattle.constraint_sys.specs.Sound.{IsShaped, IsShapedEntry};
 ghost use Rattle.edition_core.specs.Labels.{labels_of};
 ghost use Rattle.edition_core.specs.Printed as spec;
 
