@@ -49,7 +49,7 @@ IsMutexSet-join p (Reached xs locks) (Bottom room) left right = left
 IsMutexSet-join p (Reached xs locks) (Reached ys other_locks) left right = λ m held. left m ((Holds-shared_members locks other_locks m).0 held).0
 
 module _ (p : Program) (t : TableValue) (f : ℕ) (key : Key) where
-  abbrev IsFitEdge : Edge → Type 0
+  abbrev pub IsFitEdge : Edge → Type 0
   IsFitEdge e = IsFitOutcome p (slots_at p f) (outcome_of p t f key e)
 
   joined_fits : (s : StateValue) (es : List Edge) → IsFitState p (slots_at p f) s → All IsFitEdge es → IsFitState p (slots_at p f) (joined_from p t f key s es)
@@ -64,7 +64,7 @@ module _ (p : Program) (t : TableValue) (f : ℕ) (key : Key) where
   effects_fit [] each = All-nil (IsFitEffect p)
   effects_fit (e ∷ es) each = All-append (IsFitEffect p) (outcome_of p t f key e).effects (effects_of p t f key es) (All-head IsFitEdge e es each).effects (effects_fit es (All-tail IsFitEdge e es each))
 
-each_fits : (p : Program) → IsFormed p → (t : TableValue) → IsShaped p t → (f : ℕ) (key : Key) (node : ℕ) → All (λ (e : Edge). IsFitOutcome p (slots_at p f) (outcome_of p t f key e)) (edges_into p f node)
+pub each_fits : (p : Program) → IsFormed p → (t : TableValue) → IsShaped p t → (f : ℕ) (key : Key) (node : ℕ) → All (λ (e : Edge). IsFitOutcome p (slots_at p f) (outcome_of p t f key e)) (edges_into p f node)
 each_fits p formed t shaped f key node =
     All-filter _ (λ (e : Edge). IsFitOutcome p (slots_at p f) (outcome_of p t f key e)) (edges_at p f) (λ k d within. outcome_of_fits p formed t shaped f key (get_or (edges_at p f) k d) (Contains-get_or (edges_at p f) k d within))
 

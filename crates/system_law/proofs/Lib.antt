@@ -1,5 +1,6 @@
 pub mod Contributing
 pub mod Covering
+pub mod Edges
 pub mod Entries
 pub mod Examples
 pub mod Fitting

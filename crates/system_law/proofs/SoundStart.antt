@@ -69,7 +69,7 @@ number_fits W64 n passes =
     let parts = and_parts (int_le (lowest W64) n) (int_le n (greatest W64)) passes in
     (test_means (lowest W64) n parts.0, test_means n (greatest W64) parts.1)
 
-initial_fits : (p : Program) → IsFormed p → (g : ℕ) (decl : GlobalDecl) → slice_get p.globals g ≡ Some decl → IsShapedEntry p (Global g) (initial_value decl)
+pub initial_fits : (p : Program) → IsFormed p → (g : ℕ) (decl : GlobalDecl) → slice_get p.globals g ≡ Some decl → IsShapedEntry p (Global g) (initial_value decl)
 initial_fits p formed g decl at =
     let fits_it = All-get_or (λ (d : GlobalDecl). IsTrue (fits d.width d.initial)) p.globals g decl (slice_get_within p.globals g decl at) formed.initials_fit in
     let here = get_or_from_slice_get p.globals g decl decl at in

@@ -6,6 +6,7 @@
 mod law;
 
 pub use law::{
-    clean_is_post_solution, initial_is_sound, replays_are_one, replays_are_sound, replays_go_on,
-    turns_keep_sound, turns_keep_turnable,
+    clean_is_post_solution, contributions_are_local, contributions_fit, initial_is_sound,
+    initial_values_fit, post_solutions_bound_edges, replays_are_one, replays_are_sound,
+    replays_go_on, turns_keep_sound, turns_keep_turnable, turns_only_raise,
 };
