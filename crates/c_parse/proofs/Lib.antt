@@ -1,4 +1,6 @@
 pub mod Descent
+pub mod Expressions
 pub mod Opening
 pub mod Passing
 pub mod Unique
+pub mod UniqueUnit

@@ -11,14 +11,14 @@ use Rattle.c_parse.specs.Grammar.{Nesting, begins_with, is_open_paren, EndsChain
 use Rattle.c_parse.specs.Machine.{is_close_paren, opens_operand}
 use Rattle.c_parse.proofs.Passing.{level_begins, not_first, operand_is_close_paren, first_is}
 
-record SameNext (k m : Kind) (rest left : List Terminal) : Type 0 where
+pub record SameNext (k m : Kind) (rest left : List Terminal) : Type 0 where
   pub kind : k ≡ m
   pub rest_is : rest ≡ left
 
-same_next : {k m : Kind} {ts us rest left : List Terminal} → Next k ts rest → Next m us left → ts ≡ us → SameNext k m rest left
+pub same_next : {k m : Kind} {ts us rest left : List Terminal} → Next k ts rest → Next m us left → ts ≡ us → SameNext k m rest left
 same_next (grammar.next h) (grammar.next i) q = record { kind = cc; rest_is = cc }
 
-same_name : {x y : RawName} {ts us rest left : List Terminal} → ReadsName ts x rest → ReadsName us y left → ts ≡ us → (x ≡ y) × (rest ≡ left)
+pub same_name : {x y : RawName} {ts us rest left : List Terminal} → ReadsName ts x rest → ReadsName us y left → ts ≡ us → (x ≡ y) × (rest ≡ left)
 same_name (grammar.ident h) (grammar.ident i) q = (cc, cc)
 
 same_operator : {l : ℕ} {op oq : BinOp} {ts us rest left : List Terminal} → ReadsOperator l op ts rest → ReadsOperator l oq us left → ts ≡ us → (op ≡ oq) × (rest ≡ left)
@@ -120,3 +120,15 @@ mutual
   same_more (grammar.next_arg n d m) (grammar.next_arg n' d' m') q = let k = same_next n n' q in let o = same_level d d' k.rest_is in let r = same_more m m' o.1 in (cc, r.1)
   same_more (grammar.last_arg n) (grammar.next_arg n' d' m') q = let k = more_apart n n' q in absurd (cc)
   same_more (grammar.next_arg n d m) (grammar.last_arg n') q = let k = more_apart n n' q in absurd (cc)
+
+-- forms of productions, with a default for a part that may be empty
+
+abbrev pub first_form_of : ℕ → (Kind → ℕ) → List Terminal → ℕ
+first_form_of n f [] = n
+first_form_of n f (t ∷ ts) = f t.kind
+
+pub form_at_of : {k : Kind} {ts rest : List Terminal} (n : ℕ) (f : Kind → ℕ) → Next k ts rest → f k ≡ first_form_of n f ts
+form_at_of n f (grammar.next h) = ap f (sym h)
+
+pub form_at_name_of : {x : RawName} {ts rest : List Terminal} (n : ℕ) (f : Kind → ℕ) (i : ℕ) → ((text : List ℕ) → f (kinds.Name text) ≡ i) → ReadsName ts x rest → i ≡ first_form_of n f ts
+form_at_name_of n f i g (grammar.ident {text = text} h) = sym (ap f h ∙ g text)

@@ -1,4 +1,7 @@
-use gob_tree::Place;
+ghost use Rattle.std.specs.Prelude.{◌≡◌};
+ghost use Rattle.c_parse.specs.declared.fault.ExprFault.TheVariants.{Memory as WantOfMemory};
+
+use gob_tree::{Memory, Place};
 use thiserror::Error;
 
 /// Why the tokens of a text are no unit. Of all faults it is the one at the least place.
@@ -28,4 +31,12 @@ pub enum ExprFault {
     /// Want of memory. It tells nothing of the text.
     #[error("out of memory")]
     Memory,
+}
+
+impl From<Memory> for ExprFault {
+    ghost from_gives = { λ _ fault. fault ≡ WantOfMemory };
+
+    fn from(_want: Memory) -> ExprFault {
+        ExprFault::Memory
+    }
 }

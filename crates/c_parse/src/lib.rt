@@ -1,14 +1,18 @@
 //! The grammar of GobPie's C profile: tokens to trees with names as written, or the first fault.
 #![tactic(auto)]
 
+mod expr_text;
 mod expression;
 mod fault;
+mod law;
 mod raw;
 mod stop;
 mod terminal;
 mod terminals;
 
+pub use expr_text::{one_expression, parse_expr};
 pub use fault::{ExprFault, ParseFault};
+pub use law::one_unit;
 pub use raw::{
     RawExpr, RawHead, RawItem, RawName, RawParam, RawPlaced, RawReturn, RawStmt, RawUnit,
 };
