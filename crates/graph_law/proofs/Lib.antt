@@ -1,0 +1,4 @@
+pub mod Guards
+pub mod Hoists
+pub mod Statements
+pub mod Steps
