@@ -24,3 +24,6 @@ pub use message::{
 pub use read::read_request;
 pub use request::{Ask, BreakAsk, Command, Granularity};
 pub use write::write_message;
+
+#[cfg(test)]
+mod tests;
