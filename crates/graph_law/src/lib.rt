@@ -1,7 +1,6 @@
-//! Laws of the graphs of functions that stand on how each form is lowered. Each function is its
-//! contract alone and does nothing.
+//! Laws of the graphs of units. Each function is its contract alone and does nothing.
 #![tactic(auto)]
 
 mod law;
 
-pub use law::{one_guard_at_most, one_way_out};
+pub use law::{moves_are_runs, one_guard_at_most, one_way_out};
