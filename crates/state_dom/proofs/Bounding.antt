@@ -37,7 +37,7 @@ on_each-covered marks [] (y ∷ ys) each = refl
 on_each-covered marks (x ∷ xs) [] each = absurd each
 on_each-covered marks (x ∷ xs) (y ∷ ys) each = rw (widened-covered marks x y each.0, on_each-covered marks xs ys each.1) refl
 
-locks-covered : (locks others : ℕ) → Includes others locks → shared_members locks others ≡ locks
+pub locks-covered : (locks others : ℕ) → Includes others locks → shared_members locks others ≡ locks
 locks-covered locks others inside = same_from_bits (bit_and locks others) locks (λ k. elim (cases_eq (bit_at locks k) 1) [
   | inl held ↦ omega (arith, bit_at_and locks others k, held, inside k held)
   | inr free ↦ omega (arith, bit_at_and locks others k, bit_at-lt locks k, free)

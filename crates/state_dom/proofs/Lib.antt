@@ -1,3 +1,12 @@
+pub mod Assigning
 pub mod Bounding
 pub mod Deciding
+pub mod Evaluating
 pub mod InPlace
+pub mod Joining
+pub mod Keeping
+pub mod Narrowing
+pub mod Ordering
+pub mod Slots
+pub mod Splitting
+pub mod Values

@@ -1,5 +1,6 @@
 pub mod Evaluation
+pub mod Laws
 pub mod Operators
-pub mod Spares
+pub mod Splits
 pub mod StateValue
 pub mod ThresholdValues

@@ -99,6 +99,12 @@ CoversState outer (Bottom room) = Unit {0}
 CoversState (Bottom room) (Reached slots locks) = ⊥
 CoversState (Reached slots locks) (Reached inner inner_locks) = CoversEach slots inner × Includes inner_locks locks
 
+-- the new state is the old one with narrower intervals and the same locks, or Bottom with its room
+abbrev pub Narrows : StateValue → StateValue → Type 0
+Narrows (Bottom room) new = new ≡ Bottom room
+Narrows (Reached xs locks) (Bottom room) = room ≡ length xs
+Narrows (Reached xs locks) (Reached ys others) = CoversEach xs ys × (others ≡ locks)
+
 -- an operation on two intervals, place by place
 abbrev pub on_each : (Bounds → Bounds → Bounds) → List Bounds → List Bounds → List Bounds
 on_each f [] ys = []

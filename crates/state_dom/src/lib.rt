@@ -3,11 +3,18 @@
 #![tactic(auto)]
 
 mod evaluation;
+mod guarding;
+mod law;
 mod operators;
 mod state;
 mod thresholds;
 
 pub use evaluation::{assign, eval, slot_width};
+pub use guarding::guard;
+pub use law::{
+    assignment_describes, evaluation_describes, guard_keeps, guard_narrows, joins_and_raises_bound,
+    order_describes,
+};
 pub use operators::{binary_interval, converted, interval_width, may_be, unary_interval};
 pub use state::State;
 pub use thresholds::Thresholds;

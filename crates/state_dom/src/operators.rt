@@ -122,12 +122,12 @@ fn truth_of(v: Interval) -> Interval
 }
 
 /// Whether some number of the interval, if there is one, is other than 0, or is 0.
-pub fn may_be(wanted: bool, v: Option<Interval>) -> bool
-    ensures { result ≡ may_be wanted v }
+pub fn may_be(wanted: bool, v: &Option<Interval>) -> bool
+    ensures { result ≡ may_be wanted v.now }
 {
     match v {
         None => false,
-        Some(v) => may_have_truth(wanted, v),
+        Some(v) => may_have_truth(wanted, *v),
     }
 }
 
