@@ -16,8 +16,8 @@ use Rattle.gob_tree.specs.declared.expr.Width.TheVariants.{W32, W64}
 use Rattle.gob_tree.specs.declared.unit.Slot.{Slot}
 use Rattle.c_meaning.specs.declared.demand.Demand.{Demand}
 use Rattle.c_meaning.specs.Demand.{Answer, Meaning, meaning_step, meaning_of, and_then, on_answer, decided_or, early_value, unary_value, binary_value, unary_width, binary_width, wider, truth, is_zero, value_of, value_at, slot_width}
-use Rattle.c_meaning.proofs.Folds.{fold-Number, fold-Local, fold-Global, fold-Nondet, fold-Unary, fold-Binary, fold-Call}
-use Rattle.c_meaning.proofs.Induct.{by_forms}
+use Rattle.gob_tree.proofs.Folds.{fold-Number, fold-Local, fold-Global, fold-Nondet, fold-Unary, fold-Binary, fold-Call}
+use Rattle.gob_tree.proofs.Induct.{by_forms}
 use Rattle.interval_dom.specs.Bounds.{Bounds, between, Describes}
 use Rattle.state_dom.specs.Evaluation.{Reading, reading_step, reading_of, interval_of}
 use Rattle.state_dom.specs.Operators.{unary_interval, binary_interval, conjunction, disjunction}

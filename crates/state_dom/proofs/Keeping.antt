@@ -15,8 +15,8 @@ use Rattle.gob_tree.specs.declared.expr.Width.{Width}
 use Rattle.gob_tree.specs.declared.unit.Slot.{Slot}
 use Rattle.c_meaning.specs.declared.demand.Demand.{Demand}
 use Rattle.c_meaning.specs.Demand.{Answer, Meaning, meaning_step, meaning_of, and_then, on_answer, decided_or, early_value, unary_value, binary_value, wider, truth, is_zero, value_of, value_at}
-use Rattle.c_meaning.proofs.Folds.{fold-Number, fold-Local, fold-Global, fold-Nondet, fold-Unary, fold-Binary, fold-Call}
-use Rattle.c_meaning.proofs.Induct.{by_forms}
+use Rattle.gob_tree.proofs.Folds.{fold-Number, fold-Local, fold-Global, fold-Nondet, fold-Unary, fold-Binary, fold-Call}
+use Rattle.gob_tree.proofs.Induct.{by_forms}
 use Rattle.interval_dom.specs.declared.cmp.Cmp.{Cmp}
 use Rattle.interval_dom.specs.declared.cmp.Cmp.TheVariants.{Lt as Less, Le as AtMost, Gt as Greater, Ge as AtLeast, Eq as Equal, Ne as Unequal}
 use Rattle.interval_dom.specs.Bounds.{Bounds, between, Describes}

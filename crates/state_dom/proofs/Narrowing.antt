@@ -10,8 +10,8 @@ use Rattle.gob_tree.specs.declared.expr.Expr.TheOpen.{Expr-F}
 use Rattle.gob_tree.specs.declared.expr.UnOp.{UnOp}
 use Rattle.gob_tree.specs.declared.expr.UnOp.TheVariants.{Neg, Not}
 use Rattle.gob_tree.specs.declared.unit.Slot.{Slot}
-use Rattle.c_meaning.proofs.Folds.{fold-Number, fold-Local, fold-Global, fold-Nondet, fold-Unary, fold-Binary, fold-Call}
-use Rattle.c_meaning.proofs.Induct.{by_forms}
+use Rattle.gob_tree.proofs.Folds.{fold-Number, fold-Local, fold-Global, fold-Nondet, fold-Unary, fold-Binary, fold-Call}
+use Rattle.gob_tree.proofs.Induct.{by_forms}
 use Rattle.interval_dom.specs.declared.cmp.Cmp.{Cmp}
 use Rattle.interval_dom.specs.declared.cmp.Cmp.TheVariants.{Ne as Unequal}
 use Rattle.interval_dom.specs.Bounds.{Bounds, Covers, hull}

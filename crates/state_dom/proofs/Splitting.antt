@@ -3,7 +3,7 @@ use Rattle.std.proofs.Common.{◌≡◌, ◌∙◌, refl, sym, ap, subst, Bool, 
 use Rattle.gob_tree.specs.declared.expr.BinOp.{BinOp}
 use Rattle.gob_tree.specs.declared.expr.BinOp.TheVariants.{And, Or}
 use Rattle.gob_tree.specs.declared.expr.Expr.{Expr, Binary}
-use Rattle.c_meaning.proofs.Folds.{fold-Binary}
+use Rattle.gob_tree.proofs.Folds.{fold-Binary}
 use Rattle.state_dom.specs.Splits.{splits, splits_step, splits_binary}
 
 either_right : (a b : Bool) → b ≡ true → (a || b) ≡ true
