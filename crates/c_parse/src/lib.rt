@@ -17,3 +17,6 @@ pub use raw::{
     RawExpr, RawHead, RawItem, RawName, RawParam, RawPlaced, RawReturn, RawStmt, RawUnit,
 };
 pub use terminal::{Kind, Terminal};
+
+#[cfg(test)]
+mod tests;
