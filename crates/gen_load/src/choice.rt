@@ -27,11 +27,7 @@ pub struct Choice {
 }
 
 // Draws the choices of this many functions.
-pub(crate) fn choices_of(
-    alloc: Global,
-    number: u64,
-    functions: u32,
-) -> Result<Vec<Choice>, Memory>
+pub(crate) fn choices_of(alloc: Global, number: u64, functions: u32) -> Result<Vec<Choice>, Memory>
     ensures { IfOk result (λ made. made.items ≡ choices number functions) }
 {
     let mut state = number;

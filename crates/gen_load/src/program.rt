@@ -38,7 +38,9 @@ pub(crate) fn text_with(
 fn push_head(text: &mut String) -> Result<(), AllocError>
     ensures { OnOk result (string_bytes text.new ≡ string_bytes text.old ++ head_text) }
 {
-    text.push_str("int g0 = 0;\nint g1 = 0;\nint g2 = 0;\nint g3 = 0;\npthread_mutex_t m0 = PTHREAD_MUTEX_INITIALIZER;\n")
+    text.push_str(
+        "int g0 = 0;\nint g1 = 0;\nint g2 = 0;\nint g3 = 0;\npthread_mutex_t m0 = PTHREAD_MUTEX_INITIALIZER;\n",
+    )
 }
 
 // Writes each function's line.

@@ -16,7 +16,7 @@ loop-count-preserved c =
       made = pushed
           ∙ (ap (λ (l : List Choice). l ++ c.draw_choice.result ∷ []) c.loop-count.invariant.made
           ∙ (ap (λ (choice : Choice). choices c.args.number c.loop-count.count ++ choice ∷ [])
-              (c.draw_choice.ensures.choice ∙ ap choice_from c.loop-count.invariant.state)
+          (c.draw_choice.ensures.choice ∙ ap choice_from c.loop-count.invariant.state)
           ∙ sym (choices_next c.args.number c.loop-count.count)));
     }
 
