@@ -51,22 +51,30 @@ mod tests {
 
     // The text of a program of one function with this line.
     fn whole(alloc: Global, line: &str) -> Result<String, Memory> {
-        let text = format!(in alloc; "int g0 = 0;\nint g1 = 0;\nint g2 = 0;\nint g3 = 0;\npthread_mutex_t m0 = PTHREAD_MUTEX_INITIALIZER;\n{line}\nint main(void) {{\n  int r = 0;\n  r = f0(0);\n  return r;\n}}\n")?;
+        let text = format!(in alloc;
+            "int g0 = 0;\nint g1 = 0;\nint g2 = 0;\nint g3 = 0;\npthread_mutex_t m0 = PTHREAD_MUTEX_INITIALIZER;\n{line}\nint main(void) {{\n  int r = 0;\n  r = f0(0);\n  return r;\n}}\n"
+        )?;
         Ok(text)
     }
 
     #[test]
     fn each_form(rt: HostRuntime) -> Result<(), Memory> {
         for (number, line) in [
-            (, "int f0(int n) { int x = n + ; g = ; return x; }"),
-            (2, "int f0(int n) { int x = g0; if (x > 82) x = 82; return x; }"),
+            (107, "int f0(int n) { int x = n + 64; g0 = 64; return x; }"),
+            (
+                2,
+                "int f0(int n) { int x = g0; if (x > 82) x = 82; return x; }",
+            ),
             (
                 1,
                 "int f0(int n) { pthread_mutex_lock(&m0); g0 = 53; pthread_mutex_unlock(&m0); return n; }",
             ),
         ] {
             let program = program_of(rt.alloc(), number, 1)?;
-            assert!(rt; program.as_slice() == whole(rt.alloc(), line)?.as_bytes(), "of {number}");
+            assert!(rt;
+                program.as_slice() == whole(rt.alloc(), line)?.as_bytes(),
+                "of {number}"
+            );
         }
         Ok(())
     }
@@ -75,7 +83,8 @@ mod tests {
     fn eight_edits_of_one_function(rt: HostRuntime) -> Result<(), Memory> {
         let texts = edits_of(rt.alloc(), 1, 1)?;
         assert_eq!(rt; texts.len(), 8);
-        let last = "int f0(int n) { pthread_mutex_lock(&m0); g0 = 61; pthread_mutex_unlock(&m0); return n; }";
+        let last =
+            "int f0(int n) { pthread_mutex_lock(&m0); g0 = 61; pthread_mutex_unlock(&m0); return n; }";
         for (edit, text) in texts.as_slice().iter().enumerate() {
             if edit == 7 {
                 assert!(rt; text.as_bytes() == whole(rt.alloc(), last)?.as_bytes());
