@@ -1,5 +1,6 @@
 ghost use Rattle.graph_law.specs.Leaving.{OneGuardAtMost, OneWayOut};
 ghost use Rattle.graph_law.specs.Running.{MovesAreRuns};
+ghost use Rattle.graph_law.specs.Settling.{SilentEdgesAreMoves};
 
 /// The edges that leave a node of a function's graph are one, or the two opposite guards of one
 /// expression, both silent or neither.
@@ -16,4 +17,10 @@ pub fn one_guard_at_most()
 /// configuration to one other, and so does each of their prefixes.
 pub fn moves_are_runs()
     ensures { MovesAreRuns }
+{}
+
+/// The silent edges that a thread does while one can be done are moves of it, which change nothing
+/// but the node and the slots of its topmost frame; so this part of a walk never fails.
+pub fn silent_edges_are_moves()
+    ensures { SilentEdgesAreMoves }
 {}
