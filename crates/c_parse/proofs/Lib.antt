@@ -2,5 +2,6 @@ pub mod Descent
 pub mod Expressions
 pub mod Opening
 pub mod Passing
+pub mod Steps
 pub mod Unique
 pub mod UniqueUnit
