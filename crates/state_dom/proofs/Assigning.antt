@@ -1,8 +1,5 @@
 -- A slot after a store.
-use Rattle.std.proofs.Common.{ℤ, List}
-use Rattle.gob_tree.specs.declared.unit.Slot.{Slot}
 use Rattle.c_meaning.specs.Demand.{conversion, slot_width}
-use Rattle.interval_dom.specs.Bounds.{Bounds}
 use Rattle.state_dom.specs.Laws.{AssignmentDescribes}
 use Rattle.state_dom.specs.Operators.{converted_to}
 use Rattle.state_dom.proofs.Slots.{DescribesEach-set, HoldsEach-set}

@@ -1,9 +1,8 @@
 -- An expression's value is in its interval.
-use Rattle.std.proofs.Common.{◌≡◌, ◌≢◌, ◌∙◌, refl, sym, ap, subst, ℕ, ◌<◌, ℤ, pos, ◌⊎◌, inl, inr, Bool, true, false, ◌&&◌, true≢false, IsTrue, List, [], ◌∷◌, length, map, Option, Some, None, Result, Ok, Err, IsSomeAnd, arith}
-use Rattle.std.proofs.lemmas.Bool.{and_parts, cases_Bool}
+use Rattle.std.proofs.Common.{◌≡◌, ◌∙◌, refl, sym, ap, subst, ℕ, ◌<◌, ℤ, pos, Bool, true, false, ◌&&◌, true≢false, IsTrue, List, [], length, Option, Some, None, Result, Ok, Err, IsSomeAnd, arith}
+use Rattle.std.proofs.lemmas.Bool.{and_parts}
 use Rattle.std.proofs.lemmas.Int.{ints}
-use Rattle.std.specs.Ordering.{int_eq}
-use Rattle.std.specs.Prelude.{slice_get, nat_lt, not, ◌||◌, option_map, if◌then◌else◌}
+use Rattle.std.specs.Prelude.{nat_lt, not, ◌||◌, option_map, if◌then◌else◌}
 use Rattle.gob_tree.specs.Formed.{is_plain, plain_step}
 use Rattle.gob_tree.specs.Widths.{fits}
 use Rattle.gob_tree.specs.declared.expr.BinOp.{BinOp}
@@ -12,13 +11,13 @@ use Rattle.gob_tree.specs.declared.expr.Expr.{Expr, Number, Local, Unary, Binary
 use Rattle.gob_tree.specs.declared.expr.Expr.TheOpen.{Expr-F}
 use Rattle.gob_tree.specs.declared.expr.UnOp.{UnOp}
 use Rattle.gob_tree.specs.declared.expr.Width.{Width}
-use Rattle.gob_tree.specs.declared.expr.Width.TheVariants.{W32, W64}
+use Rattle.gob_tree.specs.declared.expr.Width.TheVariants.{W32}
 use Rattle.gob_tree.specs.declared.unit.Slot.{Slot}
 use Rattle.c_meaning.specs.declared.demand.Demand.{Demand}
-use Rattle.c_meaning.specs.Demand.{Answer, Meaning, meaning_step, meaning_of, and_then, on_answer, decided_or, early_value, unary_value, binary_value, unary_width, binary_width, wider, truth, is_zero, value_of, value_at, slot_width}
+use Rattle.c_meaning.specs.Demand.{Answer, Meaning, meaning_step, meaning_of, and_then, on_answer, decided_or, early_value, unary_value, binary_value, unary_width, binary_width, wider, truth, is_zero}
 use Rattle.gob_tree.proofs.Folds.{fold-Number, fold-Local, fold-Global, fold-Nondet, fold-Unary, fold-Binary, fold-Call}
 use Rattle.gob_tree.proofs.Induct.{by_forms}
-use Rattle.interval_dom.specs.Bounds.{Bounds, between, Describes}
+use Rattle.interval_dom.specs.Bounds.{Bounds, Describes}
 use Rattle.state_dom.specs.Evaluation.{Reading, reading_step, reading_of, interval_of}
 use Rattle.state_dom.specs.Operators.{unary_interval, binary_interval, conjunction, disjunction}
 use Rattle.state_dom.specs.StateValue.{HoldsEach, DescribesEach}

@@ -1,5 +1,5 @@
 -- A join of two states, one of which is described.
-use Rattle.std.proofs.Common.{◌≡◌, refl, ℕ, ℤ, List, [], ◌∷◌, Option, arith}
+use Rattle.std.proofs.Common.{ℕ, ℤ, List, [], ◌∷◌, Option, arith}
 use Rattle.std.proofs.lemmas.Int.{ints, clamps}
 use Rattle.gob_tree.specs.declared.unit.Slot.{Slot}
 use Rattle.interval_dom.specs.Bounds.{Bounds, hull}

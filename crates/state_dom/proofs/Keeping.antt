@@ -1,5 +1,5 @@
 -- A guard keeps each described state at which its expression has the wanted truth.
-use Rattle.std.proofs.Common.{◌≡◌, ◌∙◌, refl, sym, ap, subst, ℕ, ◌<◌, ℤ, pos, ◌⊎◌, inl, inr, Bool, true, false, ◌&&◌, ◌||◌, true≢false, IsTrue, List, [], ◌∷◌, length, map, Option, Some, None, Result, Ok, Err, IsSomeAnd, arith}
+use Rattle.std.proofs.Common.{◌≡◌, ◌∙◌, refl, sym, ap, subst, ℕ, ◌<◌, ℤ, pos, Bool, true, false, ◌&&◌, ◌||◌, true≢false, IsTrue, List, [], length, Option, Some, None, Result, Ok, Err, IsSomeAnd, arith}
 use Rattle.std.proofs.lemmas.Bool.{and_parts, cond_both}
 use Rattle.std.proofs.lemmas.Int.{ints}
 use Rattle.std.specs.Prelude.{slice_get, int_lt, int_le, not, nat_lt, option_and_then, if◌then◌else◌}
@@ -19,13 +19,13 @@ use Rattle.gob_tree.proofs.Folds.{fold-Number, fold-Local, fold-Global, fold-Non
 use Rattle.gob_tree.proofs.Induct.{by_forms}
 use Rattle.interval_dom.specs.declared.cmp.Cmp.{Cmp}
 use Rattle.interval_dom.specs.declared.cmp.Cmp.TheVariants.{Lt as Less, Le as AtMost, Gt as Greater, Ge as AtLeast, Eq as Equal, Ne as Unequal}
-use Rattle.interval_dom.specs.Bounds.{Bounds, between, Describes}
+use Rattle.interval_dom.specs.Bounds.{Bounds, Describes}
 use Rattle.interval_dom.specs.Comparisons.{Relates, turned_of, refined}
 use Rattle.interval_dom.proofs.Comparing.{opposite-holds, refined-keeps}
-use Rattle.state_dom.specs.Evaluation.{Reading, reading_step, reading_of, guarded_step, guarded_form, guarded_binary, compared_by, compared, refined_by, with_left, value_in, as_wanted, interval_step}
+use Rattle.state_dom.specs.Evaluation.{Reading, reading_step, reading_of, guarded_form, guarded_binary, compared, refined_by, with_left, value_in, as_wanted, interval_step}
 use Rattle.state_dom.specs.Laws.{GuardKeeps}
 use Rattle.state_dom.specs.Operators.{may_be, is_surely_zero, lacks_zero, zero_alone}
-use Rattle.state_dom.specs.StateValue.{StateValue, Bottom, Reached, room_of, slots_of, HoldsEach, DescribesEach, DescribesState, join_of, on_each}
+use Rattle.state_dom.specs.StateValue.{StateValue, Bottom, Reached, room_of, DescribesState}
 use Rattle.state_dom.proofs.Evaluating.{evaluation_describes, expr_agrees}
 use Rattle.state_dom.proofs.Joining.{joined_left, joined_right}
 use Rattle.state_dom.proofs.Narrowing.{expr_narrows, Narrows-trans}

@@ -7,6 +7,7 @@ pub mod Joining
 pub mod Keeping
 pub mod Narrowing
 pub mod Ordering
+pub mod Rests
 pub mod Slots
 pub mod Splitting
 pub mod Values

@@ -1,11 +1,11 @@
 -- A guard narrows intervals, and keeps the locks.
 use Rattle.std.proofs.Common.{◌≡◌, ◌∙◌, refl, sym, ap, subst, ℕ, suc, Bool, true, false, List, [], ◌∷◌, length, map, Option, Some, None, IfSome, arith}
-use Rattle.std.specs.Prelude.{slice_get, slice_set, not, option_and_then}
+use Rattle.std.specs.Prelude.{slice_get, not, option_and_then}
 use Rattle.std.proofs.lemmas.Bool.{cond_both}
 use Rattle.std.proofs.lemmas.Int.{ints, clamps}
 use Rattle.gob_tree.specs.declared.expr.BinOp.{BinOp}
 use Rattle.gob_tree.specs.declared.expr.BinOp.TheVariants.{Add, Sub, Mul, Div, Rem, Lt, Le, Gt, Ge, Eq, Ne, And, Or}
-use Rattle.gob_tree.specs.declared.expr.Expr.{Expr, Number, Local, Global, Nondet, Unary, Binary, Call}
+use Rattle.gob_tree.specs.declared.expr.Expr.{Expr}
 use Rattle.gob_tree.specs.declared.expr.Expr.TheOpen.{Expr-F}
 use Rattle.gob_tree.specs.declared.expr.UnOp.{UnOp}
 use Rattle.gob_tree.specs.declared.expr.UnOp.TheVariants.{Neg, Not}
@@ -21,7 +21,7 @@ use Rattle.interval_dom.proofs.Within.{Covers-trans}
 use Rattle.state_dom.specs.Evaluation.{Reading, reading_step, reading_of, guarded_by, guarded_step, guarded_form, guarded_binary, compared_by, compared, refined_by, with_left, value_in, as_wanted, interval_step}
 use Rattle.state_dom.specs.Laws.{GuardNarrows}
 use Rattle.state_dom.specs.Operators.{may_be, zero_alone}
-use Rattle.state_dom.specs.StateValue.{StateValue, Bottom, Reached, room_of, slots_of, CoversEach, FitsEach, HasShape, Narrows, on_each, join_of}
+use Rattle.state_dom.specs.StateValue.{StateValue, Bottom, Reached, room_of, CoversEach, FitsEach, HasShape, Narrows, on_each, join_of}
 use Rattle.lockset_dom.specs.Members.{shared_members}
 use Rattle.state_dom.proofs.Bounding.{CoversEach-refl, locks-covered}
 use Rattle.state_dom.proofs.Ordering.{CoversEach-trans, length-covered}

@@ -1,10 +1,10 @@
 -- The order of states, what lies below a state, and states that bound two.
-use Rattle.std.proofs.Common.{◌≡◌, refl, ap, ℕ, suc, ℤ, ◌≤ℤ◌, true, List, [], ◌∷◌, length, Option, arith}
+use Rattle.std.proofs.Common.{◌≡◌, refl, ap, suc, ℤ, ◌≤ℤ◌, true, List, [], ◌∷◌, length, arith}
 use Rattle.std.specs.Prelude.{int_lt}
 use Rattle.std.proofs.lemmas.Bool.{cond_both}
 use Rattle.std.proofs.lemmas.Int.{ints, clamps}
 use Rattle.gob_tree.specs.declared.unit.Slot.{Slot}
-use Rattle.interval_dom.specs.Bounds.{Bounds, Describes, Covers, hull}
+use Rattle.interval_dom.specs.Bounds.{Bounds, Covers, hull}
 use Rattle.interval_dom.specs.Marks.{mark_below, mark_above, widened}
 use Rattle.interval_dom.specs.declared.width.Width.TheVariants.{W64 as Bits64}
 use Rattle.interval_dom.specs.Ranges.{full}
@@ -13,8 +13,8 @@ use Rattle.interval_dom.proofs.Within.{Covers-trans, Covers-wide, widened-bounds
 use Rattle.lockset_dom.proofs.Membership.{Holds-shared_members}
 use Rattle.state_dom.specs.Laws.{OrderDescribes, OrderIsTransitive, JoinBounds, RaiseBounds}
 use Rattle.state_dom.specs.Operators.{interval_width_of}
-use Rattle.state_dom.specs.StateValue.{StateValue, Bottom, Reached, CoversEach, CoversState, DescribesEach, FitsEach, HasShape, on_each, join_of, raised_by}
-use Rattle.state_dom.proofs.Bounding.{CoversEach-refl, CoversState-refl}
+use Rattle.state_dom.specs.StateValue.{Bottom, Reached, CoversEach, DescribesEach, FitsEach, on_each}
+use Rattle.state_dom.proofs.Bounding.{CoversState-refl}
 
 pub CoversEach-trans : (xs ys zs : List Bounds) → CoversEach xs ys → CoversEach ys zs → CoversEach xs zs
 CoversEach-trans [] [] zs first second = second

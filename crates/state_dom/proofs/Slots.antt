@@ -1,7 +1,6 @@
 -- One slot of a list of intervals, with the number that it holds.
-use Rattle.std.proofs.Common.{◌≡◌, refl, ℕ, zero, suc, ◌<◌, ℤ, pos, List, [], ◌∷◌, length, Option, Some, None, IsTrue, IsSomeAnd, arith, subst, sym}
+use Rattle.std.proofs.Common.{◌≡◌, ℕ, zero, suc, ◌<◌, ℤ, List, [], ◌∷◌, length, Some, IsTrue, IsSomeAnd, arith, subst, sym}
 use Rattle.std.specs.Prelude.{slice_get, slice_set}
-use Rattle.std.proofs.lemmas.Int.{ints}
 use Rattle.gob_tree.specs.Widths.{fits}
 use Rattle.gob_tree.specs.declared.unit.Slot.{Slot}
 use Rattle.c_meaning.specs.Demand.{slot_width, value_at}

@@ -1,5 +1,5 @@
 -- The value of an operator is in the interval of the operator, for values in the operands' intervals.
-use Rattle.std.proofs.Common.{◌≡◌, ◌≢◌, ◌∙◌, refl, sym, ap, subst, ℤ, pos, ◌≤ℤ◌, ◌<ℤ◌, neg_ℤ, Bool, true, false, cond, ◌&&◌, ◌||◌, IsTrue, List, Option, Some, None, Result, Ok, Err, IsSomeAnd, arith}
+use Rattle.std.proofs.Common.{◌≡◌, ◌∙◌, refl, sym, subst, ℤ, pos, ◌≤ℤ◌, ◌<ℤ◌, neg_ℤ, Bool, true, false, cond, IsTrue, Option, Some, None, Result, Ok, Err, IsSomeAnd, arith}
 use Rattle.std.specs.Prelude.{int_le, int_lt, int_div, int_rem, not, option_map}
 use Rattle.std.specs.Ordering.{int_eq}
 use Rattle.std.proofs.lemmas.Bool.{and_parts, cond_both}
@@ -13,13 +13,13 @@ use Rattle.gob_tree.specs.declared.expr.Width.{Width}
 use Rattle.gob_tree.specs.declared.expr.Width.TheVariants.{W32, W64}
 use Rattle.c_meaning.specs.declared.demand.Demand.{Demand}
 use Rattle.c_meaning.specs.declared.demand.Demand.TheVariants.{Fault}
-use Rattle.c_meaning.specs.Demand.{conversion, wider, truth, is_zero, unary_value, binary_value, quotient_or_fault, unary_width, binary_width}
+use Rattle.c_meaning.specs.Demand.{conversion, wider, truth, is_zero, unary_value, binary_value, unary_width, binary_width}
 use Rattle.interval_dom.specs.declared.cmp.Cmp.{Cmp}
 use Rattle.interval_dom.specs.declared.cmp.Cmp.TheVariants.{Lt as Less, Le as AtMost, Gt as Greater, Ge as AtLeast, Eq as Equal, Ne as Unequal}
 use Rattle.interval_dom.specs.Bounds.{Bounds, between, Describes, hull}
-use Rattle.interval_dom.specs.Comparisons.{Relates, comparison, surely}
+use Rattle.interval_dom.specs.Comparisons.{Relates, comparison}
 use Rattle.interval_dom.specs.Quotients.{quotients, remainders}
-use Rattle.interval_dom.specs.Ranges.{IsOfWidth, wrapped, fitted, sums, differences, products, opposites}
+use Rattle.interval_dom.specs.Ranges.{IsOfWidth, wrapped, sums, differences, products, opposites}
 use Rattle.interval_dom.proofs.Comparing.{Relates-surely, comparison-holds, comparison-fails}
 use Rattle.interval_dom.proofs.Corners.{Describes-products}
 use Rattle.interval_dom.proofs.Dividing.{IsSomeAnd-fitted_quotients, IsSomeAnd-remainders, wrapped-int_rem}

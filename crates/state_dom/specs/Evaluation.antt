@@ -7,8 +7,8 @@
 -- refined by the left one's new interval; and which two states `&&` and `||` join.
 use Rattle.std.specs.Prelude.{ℕ, Bool, true, false, not, List, Option, Some, None, slice_get, slice_set, option_map, option_and_then, if◌then◌else◌}
 use Rattle.gob_tree.specs.declared.expr.BinOp.{BinOp}
-use Rattle.gob_tree.specs.declared.expr.BinOp.TheVariants.{Add, Sub, Mul, Div, Rem, Lt, Le, Gt, Ge, Eq, Ne, And, Or}
-use Rattle.gob_tree.specs.declared.expr.UnOp.TheVariants.{Neg, Not}
+use Rattle.gob_tree.specs.declared.expr.BinOp.TheVariants.{Lt, Le, Gt, Ge, Eq, Ne, And, Or}
+use Rattle.gob_tree.specs.declared.expr.UnOp.TheVariants.{Not}
 use Rattle.gob_tree.specs.declared.expr.Expr.{Expr}
 use Rattle.gob_tree.specs.declared.expr.Expr.TheOpen.{Expr-F}
 use Rattle.gob_tree.specs.declared.expr.Expr.TheFolds.{fold-Expr}

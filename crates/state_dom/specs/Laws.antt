@@ -1,5 +1,6 @@
 -- What the operations keep of the states that a run goes through.
-use Rattle.std.specs.Prelude.{◌≡◌, ℕ, ℤ, Bool, not, List, Option, Ok, IsTrue, IsSomeAnd, length, slice_set}
+use Rattle.std.specs.Prelude.{◌≡◌, ◌⊎◌, ℕ, ℤ, Bool, not, List, [], ◌∷◌, Option, Ok, Contains, IsTrue, IsSomeAnd, length, slice_set}
+use Rattle.gob_tree.specs.Widths.{lowest, greatest}
 use Rattle.gob_tree.specs.Formed.{is_plain}
 use Rattle.gob_tree.specs.declared.expr.Expr.{Expr}
 use Rattle.gob_tree.specs.declared.unit.Slot.{Slot}
@@ -7,7 +8,7 @@ use Rattle.c_meaning.specs.Demand.{slot_width, value_of, is_zero, with_slot}
 use Rattle.interval_dom.specs.Bounds.{Bounds, Describes}
 use Rattle.state_dom.specs.Evaluation.{interval_of, guarded_by}
 use Rattle.state_dom.specs.Operators.{converted_to}
-use Rattle.state_dom.specs.StateValue.{StateValue, Reached, HoldsEach, DescribesEach, DescribesState, CoversState, HasShape, Narrows, join_of, raised_by}
+use Rattle.state_dom.specs.StateValue.{StateValue, Reached, HoldsEach, DescribesEach, DescribesState, slots_of, CoversState, FitsEach, HasShape, Narrows, join_of, raised_by}
 
 -- Where an expression has a value on numbers that the intervals describe, the value is in its
 -- interval; so where it has no interval it has no value.
@@ -51,3 +52,24 @@ JoinBounds = (slots : List Slot) (a b : StateValue) → HasShape slots a → Has
 
 abbrev pub RaiseBounds : Type 0
 RaiseBounds = (slots : List Slot) (marks : List ℤ) (a b : StateValue) → HasShape slots a → HasShape slots b → CoversState (raised_by marks a b) a × CoversState (raised_by marks a b) b
+
+-- an interval's ends, each of which is that of the old one or a mark
+abbrev pub Rests : List ℤ → Bounds → Bounds → Type 0
+Rests marks old new = ((new.lo ≡ old.lo) ⊎ Contains marks new.lo) × ((new.hi ≡ old.hi) ⊎ Contains marks new.hi)
+
+abbrev pub RestsEach : List ℤ → List Bounds → List Bounds → Type 0
+RestsEach marks [] ys = ys ≡ []
+RestsEach marks (x ∷ xs) [] = ⊥
+RestsEach marks (x ∷ xs) (y ∷ ys) = Rests marks x y × RestsEach marks xs ys
+
+-- the ends of each slot's width are marks
+abbrev pub HasEndsOfEach : List ℤ → List Slot → Type 0
+HasEndsOfEach marks [] = Unit {0}
+HasEndsOfEach marks (slot ∷ slots) = (Contains marks (lowest slot.width) × Contains marks (greatest slot.width)) × HasEndsOfEach marks slots
+
+-- an end that a raise moves stands on a threshold
+abbrev pub RaiseRests : Type 0
+RaiseRests =
+    (slots : List Slot) (marks : List ℤ) (xs ys : List Bounds) (locks others : ℕ)
+    → HasEndsOfEach marks slots → FitsEach slots xs → FitsEach slots ys
+    → RestsEach marks xs (slots_of (raised_by marks (Reached xs locks) (Reached ys others)))

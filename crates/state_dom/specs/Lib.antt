@@ -1,4 +1,5 @@
 pub mod Evaluation
+pub mod Examples
 pub mod Laws
 pub mod Operators
 pub mod Splits

@@ -11,7 +11,6 @@ use Rattle.gob_tree.specs.declared.expr.BinOp.{BinOp}
 use Rattle.gob_tree.specs.declared.expr.BinOp.TheVariants.{Add, Sub, Mul, Div, Rem, Lt, Le, Gt, Ge, Eq, Ne, And, Or}
 use Rattle.gob_tree.specs.declared.expr.Width.{Width}
 use Rattle.gob_tree.specs.declared.expr.Width.TheVariants.{W32, W64}
-use Rattle.interval_dom.specs.declared.cmp.Cmp.{Cmp}
 use Rattle.interval_dom.specs.declared.cmp.Cmp.TheVariants.{Lt as Less, Le as AtMost, Gt as Greater, Ge as AtLeast, Eq as Equal, Ne as Unequal}
 use Rattle.interval_dom.specs.declared.width.Width.{Width as IntervalWidth}
 use Rattle.interval_dom.specs.declared.width.Width.TheVariants.{W32 as Bits32, W64 as Bits64}

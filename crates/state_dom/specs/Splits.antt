@@ -2,7 +2,7 @@
 use Rattle.std.specs.Prelude.{Bool, true, false, not, ◌||◌}
 use Rattle.gob_tree.specs.declared.expr.BinOp.{BinOp}
 use Rattle.gob_tree.specs.declared.expr.BinOp.TheVariants.{And, Or}
-use Rattle.gob_tree.specs.declared.expr.UnOp.TheVariants.{Neg, Not}
+use Rattle.gob_tree.specs.declared.expr.UnOp.TheVariants.{Not}
 use Rattle.gob_tree.specs.declared.expr.Expr.{Expr}
 use Rattle.gob_tree.specs.declared.expr.Expr.TheOpen.{Expr-F}
 use Rattle.gob_tree.specs.declared.expr.Expr.TheFolds.{fold-Expr}

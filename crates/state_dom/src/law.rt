@@ -1,5 +1,5 @@
 //! Laws of the operations on states.
-ghost use Rattle.state_dom.specs.Laws.{EvaluationDescribes, GuardKeeps, GuardNarrows, AssignmentDescribes, OrderDescribes, OrderIsTransitive, JoinBounds, RaiseBounds};
+ghost use Rattle.state_dom.specs.Laws.{EvaluationDescribes, GuardKeeps, GuardNarrows, AssignmentDescribes, OrderDescribes, OrderIsTransitive, JoinBounds, RaiseBounds, RaiseRests};
 
 /// The value of an expression is in the interval that `eval` gives, and where it gives none the
 /// expression has no value.
@@ -28,8 +28,10 @@ pub fn order_describes()
     ensures transitive { OrderIsTransitive }
 {}
 
-/// A join and a raise bound both states, so that they describe what either described.
+/// A join and a raise bound both states, so that they describe what either described; an end that
+/// a raise moves comes to rest on a threshold, where the ends of the slots' widths are thresholds.
 pub fn joins_and_raises_bound()
     ensures join { JoinBounds }
     ensures raise { RaiseBounds }
+    ensures rests { RaiseRests }
 {}

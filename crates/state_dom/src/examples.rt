@@ -1,0 +1,34 @@
+//! Guards and evaluations worked out by hand.
+ghost use Rattle.std.specs.Prelude.{◌≡◌, [], ◌∷◌, None, Some, true, false, pos, negsuc};
+ghost use Rattle.gob_tree.specs.declared.expr.BinOp.TheVariants.{And as Both, Or as Either};
+ghost use Rattle.gob_tree.specs.declared.expr.Expr.{Local as Slot, Unary as Prefix, Binary as Infix};
+ghost use Rattle.gob_tree.specs.declared.expr.UnOp.TheVariants.{Not as Negated};
+ghost use Rattle.interval_dom.specs.Bounds.{between};
+ghost use Rattle.state_dom.specs.Evaluation.{interval_of, guarded_by};
+ghost use Rattle.state_dom.specs.Examples.{two_ints, two_longs, both, to_ten, five_to_eight, just, less, less_than_itself, equal, either_side, inside, no_value, one_more};
+ghost use Rattle.state_dom.specs.StateValue.{Bottom};
+
+/// What guards leave: both operands of a comparison, the right one by the left one's new interval;
+/// the opposite where it is unwanted, also under `!`; the two sides of `||` and `&&`, joined; Bottom
+/// without a value.
+pub fn guards_by_hand()
+    ensures less { guarded_by two_ints less true (both to_ten five_to_eight) ≡ both (between (pos 0) (pos 7)) five_to_eight }
+    ensures not_less { guarded_by two_ints (Prefix Negated less) true (both to_ten five_to_eight) ≡ both (between (pos 5) (pos 10)) five_to_eight }
+    ensures itself { guarded_by two_ints less_than_itself true (both to_ten to_ten) ≡ both (between (pos 1) (pos 9)) to_ten }
+    ensures equal { guarded_by two_ints equal true (both (between (pos 0) (pos 6)) five_to_eight) ≡ both (between (pos 5) (pos 6)) (between (pos 5) (pos 6)) }
+    ensures either { guarded_by two_ints either_side true (both (between (pos 0) (pos 5)) to_ten) ≡ both (between (pos 0) (pos 2)) to_ten }
+    ensures not_inside { guarded_by two_ints inside false (both (between (pos 0) (pos 2)) to_ten) ≡ both (just (pos 0)) to_ten }
+    ensures local { guarded_by two_ints (Slot 0) true (both to_ten to_ten) ≡ both (between (pos 1) (pos 10)) to_ten }
+    ensures no_value { guarded_by two_ints no_value true (both to_ten to_ten) ≡ Bottom 2 }
+{}
+
+/// What evaluations give: at the operator's width, and for `&&` and `||` beside an operand without
+/// a value.
+pub fn evaluations_by_hand()
+    ensures long_sum { interval_of two_longs (just (pos 2147483647) ∷ to_ten ∷ []) one_more ≡ Some (just (pos 2147483648)) }
+    ensures int_sum { interval_of two_ints (just (pos 2147483647) ∷ to_ten ∷ []) one_more ≡ Some (between (negsuc 2147483647) (pos 2147483647)) }
+    ensures and_maybe { interval_of two_ints (to_ten ∷ to_ten ∷ []) (Infix Both (Slot 0) no_value) ≡ Some (just (pos 0)) }
+    ensures and_never { interval_of two_ints (five_to_eight ∷ to_ten ∷ []) (Infix Both (Slot 0) no_value) ≡ None }
+    ensures or_maybe { interval_of two_ints (to_ten ∷ to_ten ∷ []) (Infix Either (Slot 0) no_value) ≡ Some (just (pos 1)) }
+    ensures or_never { interval_of two_ints (just (pos 0) ∷ to_ten ∷ []) (Infix Either (Slot 0) no_value) ≡ None }
+{}
