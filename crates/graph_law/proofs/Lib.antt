@@ -1,5 +1,6 @@
 pub mod Guards
 pub mod Hoists
+pub mod Lying
 pub mod Running
 pub mod Settling
 pub mod Statements

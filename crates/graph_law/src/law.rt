@@ -1,4 +1,5 @@
 ghost use Rattle.graph_law.specs.Leaving.{OneGuardAtMost, OneWayOut};
+ghost use Rattle.graph_law.specs.Lying.{BodiesLie, UnrollingLies};
 ghost use Rattle.graph_law.specs.Running.{MovesAreRuns};
 ghost use Rattle.graph_law.specs.Settling.{SilentEdgesAreMoves};
 
@@ -23,4 +24,14 @@ pub fn moves_are_runs()
 /// but the node and the slots of its topmost frame; so this part of a walk never fails.
 pub fn silent_edges_are_moves()
     ensures { SilentEdgesAreMoves }
+{}
+
+/// What unrolls in front lies in the graph from the node where it lay before.
+pub fn unrolling_lies()
+    ensures { UnrollingLies }
+{}
+
+/// A function's body, unrolled, lies in its graph from the body's start on.
+pub fn bodies_lie()
+    ensures { BodiesLie }
 {}

@@ -3,4 +3,7 @@
 
 mod law;
 
-pub use law::{moves_are_runs, one_guard_at_most, one_way_out, silent_edges_are_moves};
+pub use law::{
+    bodies_lie, moves_are_runs, one_guard_at_most, one_way_out, silent_edges_are_moves,
+    unrolling_lies,
+};
