@@ -1,7 +1,7 @@
 -- How messages are spelled.
 use Rattle.std.specs.Prelude.{◌≡◌, ℕ, ◌+◌, ◌≤◌, Bool, true, false, ◌==◌, List, [], ◌∷◌, ◌++◌, length}
 use Rattle.std.specs.List.{list_any, flat_map, AllByRecursion}
-use Rattle.dap_frame.specs.declared.header.TheConstants.{MAX_HEADER, MAX_CONTENT}
+use Rattle.dap_frame.specs.Limits.{header_limit, content_limit}
 use Rattle.dap_frame.specs.declared.line.Line.{Line}
 use Rattle.dap_frame.specs.declared.line.Line.TheVariants.{Empty, Length, Other, Malformed}
 use Rattle.dap_frame.specs.Line.{field_of}
@@ -51,11 +51,11 @@ abbrev pub spelling : Spelled → List ℕ
 spelling m = header_text m.fields ++ 13 ∷ 10 ∷ m.content
 
 abbrev pub IsContent : List ℕ → Type 0
-IsContent content = length content ≤ MAX_CONTENT
+IsContent content = length content ≤ content_limit
 
 -- one line gives the length, which is the content's; and the header isn't too long
 pub record IsSpelled (m : Spelled) : Type 0 where
   pub each : AllByRecursion IsField m.fields
   pub once : lengths m.fields ≡ length m.content ∷ []
-  pub short : length (header_text m.fields) + 2 ≤ MAX_HEADER
+  pub short : length (header_text m.fields) + 2 ≤ header_limit
   pub content : IsContent m.content

@@ -1,7 +1,7 @@
 -- What the lines of a header say, one after another.
 use Rattle.std.specs.Prelude.{◌≡◌, ℕ, ◌+◌, ◌-◌, ◌≤◌, false, ◌==◌, nat_le, if◌then◌else◌, List, [], ◌∷◌, length, take, Option, Some, None, fold}
 use Rattle.std.specs.List.{list_any}
-use Rattle.dap_frame.specs.declared.header.TheConstants.{MAX_HEADER, MAX_CONTENT}
+use Rattle.dap_frame.specs.Limits.{header_limit, content_limit}
 use Rattle.dap_frame.specs.declared.line.Line.{Line}
 use Rattle.dap_frame.specs.declared.line.Line.TheVariants.{Empty, Length, Other, Malformed}
 use Rattle.dap_frame.specs.declared.header.LengthLine.{LengthLine}
@@ -36,13 +36,13 @@ size_of (Faulty fault) = 0
 
 -- what a header may have: bytes, and bytes of content
 abbrev pub IsBounded : Header → Type 0
-IsBounded (Open head) = head.size ≤ MAX_HEADER
-IsBounded (Ended size n) = (size ≤ MAX_HEADER) × (n ≤ MAX_CONTENT)
+IsBounded (Open head) = head.size ≤ header_limit
+IsBounded (Ended size n) = (size ≤ header_limit) × (n ≤ content_limit)
 IsBounded (Faulty fault) = Unit {0}
 
 -- at the empty line, by the length that line `at` gave
 abbrev pub ended : ℕ → ℕ → ℕ → Header
-ended size at n = if nat_le n MAX_CONTENT then Ended size n else Faulty (TooLong at n)
+ended size at n = if nat_le n content_limit then Ended size n else Faulty (TooLong at n)
 
 abbrev pub ended_by : Head → ℕ → Option LengthLine → Header
 ended_by head size None = Faulty (Bad head.size)
@@ -72,7 +72,7 @@ after_line (Faulty fault) line = Faulty fault
 -- The header, where `header` is what the lines before the bytes made of it: only lines that end in
 -- its first 4,096 bytes are judged.
 abbrev pub header_on : Header → List ℕ → Header
-header_on header bytes = fold after_line header (lines_of (take (MAX_HEADER - size_of header) bytes))
+header_on header bytes = fold after_line header (lines_of (take (header_limit - size_of header) bytes))
 
 abbrev pub header_of : List ℕ → Header
 header_of bytes = header_on (Open nothing_said) bytes

@@ -1,6 +1,6 @@
 -- The part of a message that isn't whole, and reading on from it.
 use Rattle.std.specs.Prelude.{◌≡◌, ℕ, ◌+◌, ◌<◌, List, ◌++◌, length}
-use Rattle.dap_frame.specs.declared.header.TheConstants.{MAX_HEADER}
+use Rattle.dap_frame.specs.Limits.{header_limit}
 use Rattle.dap_frame.specs.declared.header.Head.{Head}
 use Rattle.dap_frame.specs.declared.header.Header.{Header}
 use Rattle.dap_frame.specs.declared.header.Header.TheVariants.{Open, Ended, Faulty}
@@ -10,7 +10,7 @@ use Rattle.dap_frame.specs.Stream.{End, end_after, Reads}
 -- the front of a header line, with room for its LF in the header's first 4,096 bytes
 pub record IsLinePart (head : Head) (bytes : List ℕ) : Type 0 where
   pub no_lf : HasNoLf bytes
-  pub short : head.size + length bytes < MAX_HEADER
+  pub short : head.size + length bytes < header_limit
 
 -- the front of what the header goes on with: a line, or a content of n bytes
 abbrev pub IsUnfinished : Header → List ℕ → Type 0

@@ -1,7 +1,7 @@
 -- What a scan of bytes finds.
 use Rattle.std.specs.Prelude.{◌≡◌, ℕ, ◌+◌, ◌-◌, ◌<◌, ◌≤◌, List, [], ◌∷◌, length, take, drop, map}
 use Rattle.std.specs.Global.{Vec}
-use Rattle.dap_frame.specs.declared.header.TheConstants.{MAX_HEADER}
+use Rattle.dap_frame.specs.Limits.{header_limit}
 use Rattle.dap_frame.specs.declared.header.Header.{Header}
 use Rattle.dap_frame.specs.declared.header.Header.TheVariants.{Open, Ended, Faulty}
 use Rattle.dap_frame.specs.declared.scan.Part.{Part}
@@ -16,7 +16,7 @@ contents messages = map (λ message. message.items) messages
 
 -- no line of the header ends in the bytes
 abbrev pub HasNoWholeLine : Header → List ℕ → Type 0
-HasNoWholeLine (Open head) bytes = HasNoLf (take (MAX_HEADER - head.size) bytes)
+HasNoWholeLine (Open head) bytes = HasNoLf (take (header_limit - head.size) bytes)
 HasNoWholeLine (Ended size n) bytes = Unit {0}
 HasNoWholeLine (Faulty f) bytes = Unit {0}
 

@@ -1,6 +1,6 @@
 -- The messages of a stream, and how it ends.
 use Rattle.std.specs.Prelude.{◌≡◌, ℕ, ◌+◌, ◌-◌, ◌==◌, nat_le, nat_lt, if◌then◌else◌, List, [], ◌∷◌, length, take, drop}
-use Rattle.dap_frame.specs.declared.header.TheConstants.{MAX_HEADER}
+use Rattle.dap_frame.specs.Limits.{header_limit}
 use Rattle.dap_frame.specs.declared.fault.FrameFault.{FrameFault}
 use Rattle.dap_frame.specs.declared.fault.FrameFault.TheVariants as frame
 use Rattle.dap_frame.specs.declared.header.HeaderFault.{HeaderFault}
@@ -23,7 +23,7 @@ content_at skip n bytes =
 
 -- by the header, of which `before` bytes stand before the bytes
 abbrev pub next_by : ℕ → List ℕ → Header → Next
-next_by before bytes (Open head) = if nat_lt (before + length bytes) MAX_HEADER then unfinished else fault (Bad 0)
+next_by before bytes (Open head) = if nat_lt (before + length bytes) header_limit then unfinished else fault (Bad 0)
 next_by before bytes (Ended size n) = content_at (size - before) n bytes
 next_by before bytes (Faulty f) = fault f
 

@@ -83,7 +83,7 @@ fn headers_that_are_read(rt: HostRuntime) {
 
 #[test]
 fn lines_at_fault(rt: HostRuntime) {
-    let second_lines: [&[u8]; 11] = [
+    let second_lines: [&[u8]; 12] = [
         b"Content-Length: 2\n",
         b"Content-Length 2\r\n",
         b"Content-Length: 00000000002\r\n",
@@ -92,6 +92,7 @@ fn lines_at_fault(rt: HostRuntime) {
         b"Content-Length: -2\r\n",
         b": 2\r\n",
         b"A b: 2\r\n",
+        b"A\x7f: 2\r\n",
         b"A: b\rc\r\n",
         b"\r\n",
         b"\n",
@@ -134,6 +135,16 @@ fn a_longer_content(rt: HostRuntime) -> Result<(), Fail> {
     framer.feed(b"X: y\r\nContent-Length: 1048577\r\nX: y\r\n")?;
     let n = 1_048_577;
     assert_eq!(rt; framer.feed(b"\r\n"), Err(FrameFault::TooLong { at: 6, n }));
+    Ok(())
+}
+
+#[test]
+fn a_longer_content_after_a_message(rt: HostRuntime) -> Result<(), Fail> {
+    let mut framer = Framer::new(rt.alloc());
+    framer.feed(REQUEST)?;
+    let fault = framer.feed(b"Content-Length: 1048577\r\n\r\n");
+    let n = 1_048_577;
+    assert_eq!(rt; fault, Err(FrameFault::TooLong { at: 71, n }));
     Ok(())
 }
 
