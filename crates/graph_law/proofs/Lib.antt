@@ -1,5 +1,7 @@
+pub mod Extending
 pub mod Guards
 pub mod Hoists
+pub mod Laying
 pub mod Lying
 pub mod Running
 pub mod Settling

@@ -118,14 +118,14 @@ module _ (f : Function) where
       let own = at place (For (p.0 ∷ map (λ q. q.0) ps) test None b.0) in
       let next : Lies f (Test own ∷ rest) (next_node d) = tests _ _ r d _ piece (at_for _ _ _ None b.0 _ _) to in
       subst (λ (l : List Todo). Lies f l r.from) (sym (front-For place p.0 (map (λ q. q.0) ps) test None b.0 rest))
-      (opens p (map (λ q. q.0) ps) (Test own ∷ rest) (first_route r (next_node d)) (with_node place d) (for_firsts _ _ _ None b.0 _ _ piece) next to next))
+      (opens p (map (λ q. q.0) ps) (Test own ∷ rest) (first_route r (next_node d)) (with_node place d) (for_firsts _ _ _ _ None b.0 _ _ piece) next to next))
   layer (Stmt-F.For (p ∷ ps) test (Some last) b) =
       subst (StmtLies f) (sym (rolls-For (p.0 ∷ map (λ q. q.0) ps) test (Some last.0) b.0))
       (λ place rest r d piece to breaks continues.
       let own = at place (For (p.0 ∷ map (λ q. q.0) ps) test (Some last.0) b.0) in
       let next : Lies f (Test own ∷ rest) (next_node d) = tests _ _ r d _ piece (at_for _ _ _ (Some last.0) b.0 _ _) to in
       subst (λ (l : List Todo). Lies f l r.from) (sym (front-For place p.0 (map (λ q. q.0) ps) test (Some last.0) b.0 rest))
-      (opens p (map (λ q. q.0) ps) (Test own ∷ rest) (first_route r (next_node d)) (with_node place d) (for_firsts _ _ _ (Some last.0) b.0 _ _ piece) next to next))
+      (opens p (map (λ q. q.0) ps) (Test own ∷ rest) (first_route r (next_node d)) (with_node place d) (for_firsts _ _ _ _ (Some last.0) b.0 _ _ piece) next to next))
 
   stmt_rolled : (x : Stmt-F Stmt Placed) (y : Stmt-F (LyingStmt f) (LyingPlaced f)) → map-Stmt (LyingStmt f) (LyingPlaced f) Stmt Placed (λ s. s.0) (λ p. p.0) y ≡ x → StmtLies f (roll-Stmt x)
   stmt_rolled x y e = subst (λ (z : Stmt-F Stmt Placed). StmtLies f (roll-Stmt z)) e (layer y)

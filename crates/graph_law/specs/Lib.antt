@@ -1,3 +1,4 @@
+pub mod Laying
 pub mod Leaving
 pub mod Lying
 pub mod Running

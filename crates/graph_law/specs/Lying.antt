@@ -62,8 +62,8 @@ mutual
         → Series f (s' ∷ ss) (route_from (next_node d) r)
         ((lowering_of s).lower (route_to (next_node d) r) (with_node (start_of s') d))
     in_block : (place : Place) (all : List Placed) (r : Route) (d : FlowGraph) → Piece f (at place (Block all)) r d → Series f all r d
-    for_firsts : (place : Place) (first : List Placed) (test : Option Expr) (last : Option Placed) (body : Placed) (r : Route) (d : FlowGraph)
-        → Piece f (at place (For first test last body)) r d → Series f first (first_route r (next_node d)) (with_node place d)
+    for_firsts : (place : Place) (s : Placed) (ss : List Placed) (test : Option Expr) (last : Option Placed) (body : Placed) (r : Route) (d : FlowGraph)
+        → Piece f (at place (For (s ∷ ss) test last body)) r d → Series f (s ∷ ss) (first_route r (next_node d)) (with_node place d)
 
 -- the node of a loop's test, and one from which this loop's own silent skip leads there
 pub data TestsAt : Placed → Route → FlowGraph → ℕ → Type 0 where

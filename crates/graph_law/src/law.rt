@@ -1,3 +1,10 @@
+ghost use Rattle.graph_law.specs.Laying.{
+  StatementsAreLaid,
+  BranchesLie,
+  WhilesLie,
+  TestsLie,
+  LastPartsLie,
+};
 ghost use Rattle.graph_law.specs.Leaving.{OneGuardAtMost, OneWayOut};
 ghost use Rattle.graph_law.specs.Lying.{BodiesLie, UnrollingLies};
 ghost use Rattle.graph_law.specs.Running.{MovesAreRuns};
@@ -34,4 +41,20 @@ pub fn unrolling_lies()
 /// A function's body, unrolled, lies in its graph from the body's start on.
 pub fn bodies_lie()
     ensures { BodiesLie }
+{}
+
+/// A statement that comes next has its edges in the graph, along a route from the node where it
+/// lies; what comes after it, after `break` and after `continue` lies where the route leads.
+pub fn statements_are_laid()
+    ensures { StatementsAreLaid }
+{}
+
+/// The branches of an `if`, the body of a `while`, and the body of a loop that has begun lie behind
+/// the guards of their condition, which is hoisted from where the statement or the test lies; what
+/// comes after them lies behind the other guard.
+pub fn branches_lie()
+    ensures branches { BranchesLie }
+    ensures whiles { WhilesLie }
+    ensures tests { TestsLie }
+    ensures last_parts { LastPartsLie }
 {}

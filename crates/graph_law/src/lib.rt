@@ -4,6 +4,6 @@
 mod law;
 
 pub use law::{
-    bodies_lie, moves_are_runs, one_guard_at_most, one_way_out, silent_edges_are_moves,
-    unrolling_lies,
+    bodies_lie, branches_lie, moves_are_runs, one_guard_at_most, one_way_out,
+    silent_edges_are_moves, statements_are_laid, unrolling_lies,
 };
