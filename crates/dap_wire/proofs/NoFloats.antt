@@ -1,6 +1,6 @@
 -- No message has a float, so its compact text is told.
-use Rattle.std.proofs.Common.{◌≡◌, ℕ, suc, List, [], ◌∷◌, map, Option, Some, None, Bool, false, refl}
-use Rattle.serde_json.specs.Data.{Data, Members, Items}
+use Rattle.std.proofs.Common.{◌≡◌, ℕ, suc, List, [], ◌∷◌, map, Option, Some, None, false, refl}
+use Rattle.serde_json.specs.Data.{Data, Members}
 use Rattle.serde_json.specs.View.{items_of}
 use Rattle.serde_json.specs.Written.{has_float, items_have_float, members_have_float}
 use Rattle.dap_wire.specs.declared.message.BreakInfo.{BreakInfo}

@@ -1,6 +1,6 @@
 -- The JSON value of a message. Keys stand in the order of their bytes.
-use Rattle.std.specs.Prelude.{ℕ, suc, List, [], ◌∷◌, map, Option, Some, None, Bool, true, false, codes, is_none}
-use Rattle.serde_json.specs.Data.{Data, boolean, number, unsigned, string, array, object, Items, no_items, item, Members, no_members, member}
+use Rattle.std.specs.Prelude.{ℕ, suc, List, [], ◌∷◌, map, Option, Some, None, true, false, codes}
+use Rattle.serde_json.specs.Data.{Data, boolean, number, unsigned, string, array, object, no_items, item, Members, no_members, member}
 use Rattle.serde_json.specs.View.{items_of}
 use Rattle.dap_wire.specs.declared.message.BreakInfo.{BreakInfo}
 use Rattle.dap_wire.specs.declared.message.ThreadInfo.{ThreadInfo}

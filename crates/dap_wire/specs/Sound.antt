@@ -1,10 +1,10 @@
 -- What holds of every request that is read, and of every refusal.
 use Rattle.std.specs.Prelude.{◌≤◌, List, length, All, IfSome}
 use Rattle.dap_wire.specs.declared.fault.WireFault.{WireFault}
-use Rattle.dap_wire.specs.declared.fault.WireFault.TheVariants.{NotJson, NotARequest, UnknownCommand, BadArguments, Memory}
+use Rattle.dap_wire.specs.declared.fault.WireFault.TheVariants.{UnknownCommand, BadArguments}
 use Rattle.dap_wire.specs.declared.request.BreakAsk.{BreakAsk}
 use Rattle.dap_wire.specs.declared.request.Command.{Command}
-use Rattle.dap_wire.specs.declared.request.Command.TheVariants.{Initialize, Launch, SetBreakpoints, SetExceptionBreakpoints, ConfigurationDone, Threads, StackTrace, Scopes, Variables, Evaluate, Next, StepIn, StepInTargets, StepOut, StepBack, Continue, Restart, Disconnect, Edit, Await, Status}
+use Rattle.dap_wire.specs.declared.request.Command.TheVariants.{SetBreakpoints, Evaluate, Edit}
 use Rattle.dap_wire.specs.Texts.{IsText}
 
 abbrev pub IsBreakText : BreakAsk → Type 0

@@ -1,7 +1,7 @@
 ghost use Rattle.std.specs.Prelude.{◌≡◌, ◌≢◌, Some, None, Ok, Err, option_map, IfOk, IfErr};
 ghost use Rattle.serde_json.specs.View.{view};
 ghost use Rattle.dap_wire.specs.Names.{command_named};
-ghost use Rattle.dap_wire.specs.Requests.{value_of, head_of, arguments_of, by_name, request_of};
+ghost use Rattle.dap_wire.specs.Requests.{value_of, head_of, by_name, request_of};
 ghost use Rattle.dap_wire.specs.Sound.{IsSoundCommand, IsSoundFault};
 
 use crate::arguments::whole_from;

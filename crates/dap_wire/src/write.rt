@@ -1,5 +1,4 @@
 ghost use Rattle.std.specs.Prelude.{◌≡◌, Some, IfOk, All, option_map};
-ghost use Rattle.serde_json.specs.Data.{string};
 ghost use Rattle.serde_json.specs.View.{view};
 ghost use Rattle.serde_json.specs.Written.{compact_text};
 ghost use Rattle.dap_wire.specs.Messages.{capabilities, body_of, event_body, event_name, stop_reason, verdict, scope_data, frames_body, scopes_body, result_body, judged_body, status_body, response_data, refusal_data, event_data, message_data};
