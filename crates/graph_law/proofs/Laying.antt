@@ -17,7 +17,7 @@ use Rattle.c_meaning.specs.declared.config.Todo.TheVariants.{Stmt as Doing, Test
 use Rattle.c_meaning.specs.Graph.{MarkedEdge, FlowGraph, Route, Hoisted, Lowering, lowering_of, lowering_step, next_node, with_node, with_marked, hoisted_expr, condition, sequence, if_head, while_head, for_first, then_route, else_route, while_route, do_route, for_route, last_route, last_node, route_to, route_from, part_or_silent, body_route, first_flow, flow_of}
 use Rattle.c_meaning.specs.Tree.{turn_of, layer_of, test_exprs}
 use Rattle.c_meaning.proofs.Lowerings.{lowering-If, lowering-While, lowering-DoWhile, lowering-For, lowering-Block}
-use Rattle.graph_law.specs.Lying.{at, start_of, for_condition, for_opened, Piece, alone, first_of, then_part, else_part, while_body, do_body, for_body, for_last, Series, body, behind, in_block, for_firsts, TestsAt, at_while, at_do, at_for, without_first, without_last, LastAt, at_last, Lies, nothing, does, tests, lasts}
+use Rattle.graph_law.specs.Lying.{at, start_of, for_condition, for_opened, Piece, alone, first_of, then_part, else_part, while_body, do_body, for_body, Series, body, behind, in_block, for_firsts, TestsAt, at_while, at_do, at_for, without_first, without_last, LastAt, at_last, Lies, nothing, does, tests, lasts}
 use Rattle.graph_law.specs.Laying.{Extends, HasEdge, Laid, StatementsAreLaid, Splits, BranchesLie, WhilesLie, Tested, TestsLie, IsLastPart, last_of, LastPartsLie}
 use Rattle.graph_law.proofs.Extending.{extends_none, extends_then, extends_node, extends_edge, expr_extends, for_head_extends, extends_guards, LowerExtends, PartExtends, sequence_extends, lowerings_extend, every_extends, part_extends, for_rest_extends, do_rest_extends}
 
@@ -58,7 +58,6 @@ module _ (f : Function) where
         let mid = (lowering_of b).lower (for_route r (for_condition place first test r d)) (for_opened place first test (Some last) b r d) in
         extends_then mid _ (flow_of f) (part_extends (Some (lowering_of last)) (lowerings_extend last) (last_route r (next_node d) (for_condition place first test r d)) mid)
         (drawn_as f _ _ r d (lowering-For place first test (Some last) b) (piece_drawn _ r d piece))
-    piece_drawn _ _ _ (for_last place first test last b r d piece) = drawn_as f _ _ r d (lowering-For place first test (Some last) b) (piece_drawn _ r d piece)
 
     series_drawn : (ss : List Placed) (r : Route) (d : FlowGraph) → Series f ss r d → Extends (sequence (map lowering_of ss) r d) (flow_of f)
     series_drawn _ _ _ body = extends_none (flow_of f)
@@ -226,7 +225,7 @@ for_tested f place first test (Some last) b rest r d piece to =
     }
 
 -- the silent skips of missing parts
-skips_first : (f : Function) (place : Place) (test : Option Expr) (last : Option Placed) (b : Placed) (r : Route) (d : FlowGraph) → Piece f (at place (For [] test last b)) r d → HasEdge f true r.from Skip (next_node d)
+pub skips_first : (f : Function) (place : Place) (test : Option Expr) (last : Option Placed) (b : Placed) (r : Route) (d : FlowGraph) → Piece f (at place (For [] test last b)) r d → HasEdge f true r.from Skip (next_node d)
 skips_first f place test last b r d piece =
     let begun = for_first [] place r d in
     let h = for_condition place [] test r d in
@@ -236,7 +235,7 @@ skips_first f place test last b r d piece =
     (extends_then h.1.flow head (flow_of f) (for_head_extends (start_of b) (option_map_or start_of last place) r.to h) (head_drawn f place [] test last b r d piece)))
     (there_behind (with_node place d).edges _)
 
-skips_last : (f : Function) (place : Place) (first : List Placed) (test : Option Expr) (b : Placed) (r : Route) (d : FlowGraph) → Piece f (at place (For first test None b)) r d → HasEdge f true (last_node (for_condition place first test r d)) Skip (next_node d)
+pub skips_last : (f : Function) (place : Place) (first : List Placed) (test : Option Expr) (b : Placed) (r : Route) (d : FlowGraph) → Piece f (at place (For first test None b)) r d → HasEdge f true (last_node (for_condition place first test r d)) Skip (next_node d)
 skips_last f place first test b r d piece =
     let h = for_condition place first test r d in
     let mid = (lowering_of b).lower (for_route r h) (for_opened place first test None b r d) in
@@ -270,11 +269,23 @@ tested_at f _ rest r d _ piece to (without_last place first test b _ _) = (next_
 pub tests_lie : TestsLie
 tests_lie f _ _ _ (tests l rest r d n piece where_at to) = tested_at f l rest r d n piece to where_at
 
-last_at : (f : Function) (l : Placed) (rest : List Todo) (r : Route) (d : FlowGraph) (n : ℕ) → Piece f l r d → Lies f rest r.to → LastAt l r d n → (last : Placed) × IsLastPart l last × Lies f (Doing last ∷ Test l ∷ rest) n
+last_at : (f : Function) (l : Placed) (rest : List Todo) (r : Route) (d : FlowGraph) (n : ℕ) → Piece f l r d → Lies f rest r.to → LastAt l r d n → (last : Placed) × IsLastPart l last × Laid f last (Test l ∷ rest) n
 last_at f _ rest r d _ piece to (at_last place first test last b _ _) =
     let own = at place (For first test (Some last) b) in
-    let next : Lies f (Test own ∷ rest) (next_node d) = tests own rest r d (next_node d) piece (at_for place first test (Some last) b r d) to in
-    (last, last_of place first test last b, does last (Test own ∷ rest) (last_route r (next_node d) (for_condition place first test r d)) _ (for_last place first test last b r d piece) next to next)
+    let h = for_condition place first test r d in
+    let next : Lies f (Test own ∷ rest) (next_node d) = tests own rest r d (next_node d) piece (at_for place first test (Some last) b r d) to in (
+      last,
+      last_of place first test last b,
+      record {
+        route = last_route r (next_node d) h;
+        graph = (lowering_of b).lower (for_route r h) (for_opened place first test (Some last) b r d);
+        begins = refl;
+        drawn = for_drawn f place first test (Some last) b r d piece;
+        next = next;
+        breaks = to;
+        continues = next;
+      },
+    )
 
 pub last_parts_lie : LastPartsLie
 last_parts_lie f _ _ _ (lasts l rest r d n piece where_at to) = last_at f l rest r d n piece to where_at

@@ -1,3 +1,4 @@
+pub mod Beginning
 pub mod Extending
 pub mod Guards
 pub mod Hoists

@@ -13,6 +13,7 @@ use Rattle.c_meaning.specs.declared.config.Todo.{Todo}
 use Rattle.c_meaning.specs.declared.config.Todo.TheVariants.{Stmt as Doing, Test, Last}
 use Rattle.c_meaning.specs.Tree.{after_break, after_continue, turn_of, layer_of, test_exprs}
 use Rattle.c_meaning.specs.Graph.{MarkedEdge, FlowGraph, Route, Hoisted, lowering_of, hoisted_expr, flow_of}
+use Rattle.c_meaning.specs.Walk.{begun_of}
 use Rattle.graph_law.specs.Lying.{at, Lies}
 
 -- one graph begins with the edges of another
@@ -79,8 +80,15 @@ TestsLie =
 pub data IsLastPart : Placed → Placed → Type 0 where
   last_of : (place : Place) (first : List Placed) (test : Option Expr) (last body : Placed) → IsLastPart (at place (For first test (Some last) body)) last
 
--- the last part of a `for` lies where a statement does
+-- the last part of a `for` is laid out as a statement is
 abbrev pub LastPartsLie : Type 0
 LastPartsLie =
     (f : Function) (l : Placed) (rest : List Todo) (n : ℕ) → Lies f (Last l ∷ rest) n
-    → (last : Placed) × IsLastPart l last × Lies f (Doing last ∷ rest) n
+    → (last : Placed) × IsLastPart l last × Laid f last rest n
+
+-- What comes next begins, as standing says it, at the node where it lies or where a silent skip
+-- leads from there.
+abbrev pub ThingsBegin : Type 0
+ThingsBegin =
+    (f : Function) (todo : Todo) (rest : List Todo) (n : ℕ) → Lies f (todo ∷ rest) n
+    → (h : ℕ) × ((h ≡ n) ⊎ HasEdge f true n Skip h) × Contains (begun_of f) (todo, h)

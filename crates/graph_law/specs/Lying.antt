@@ -12,7 +12,7 @@ use Rattle.gob_tree.specs.declared.unit.Function.{Function}
 use Rattle.c_meaning.specs.declared.config.Todo.{Todo}
 use Rattle.c_meaning.specs.declared.config.Todo.TheVariants.{Stmt as Doing, Test, Last}
 use Rattle.c_meaning.specs.Tree.{statements, unrolling, with_front, after_break, after_continue}
-use Rattle.c_meaning.specs.Graph.{FlowGraph, Route, Hoisted, lowering_of, next_node, with_node, route_to, route_from, then_route, else_route, while_route, do_route, first_route, for_route, last_route, last_node, hoisted_expr, condition, if_head, while_head, for_first, for_head, first_flow, body_route}
+use Rattle.c_meaning.specs.Graph.{FlowGraph, Route, Hoisted, lowering_of, next_node, with_node, route_to, route_from, then_route, else_route, while_route, do_route, first_route, for_route, last_node, hoisted_expr, condition, if_head, while_head, for_first, for_head, first_flow, body_route}
 
 -- a statement at a place
 abbrev pub at : Place → Stmt → Placed
@@ -32,7 +32,7 @@ for_opened place first test last body r d =
 
 mutual
   -- a statement that is met while the body of a function is lowered, with its route and the graph
-  -- before it
+  -- before it; the last part of a `for` is none of its own, since it comes next as a part of the loop
   pub data Piece (f : Function) : Placed → Route → FlowGraph → Type 0 where
     alone : (s : Placed) (r : Route) (d : FlowGraph) → Series f (s ∷ []) r d → Piece f s r d
     first_of : (s s' : Placed) (ss : List Placed) (r : Route) (d : FlowGraph) → Series f (s ∷ s' ∷ ss) r d
@@ -50,10 +50,6 @@ mutual
     for_body : (place : Place) (first : List Placed) (test : Option Expr) (last : Option Placed) (body : Placed) (r : Route) (d : FlowGraph)
         → Piece f (at place (For first test last body)) r d
         → Piece f body (for_route r (for_condition place first test r d)) (for_opened place first test last body r d)
-    for_last : (place : Place) (first : List Placed) (test : Option Expr) (last body : Placed) (r : Route) (d : FlowGraph)
-        → Piece f (at place (For first test (Some last) body)) r d
-        → Piece f last (last_route r (next_node d) (for_condition place first test r d))
-        ((lowering_of body).lower (for_route r (for_condition place first test r d)) (for_opened place first test (Some last) body r d))
 
   -- a list of statements that is met so
   pub data Series (f : Function) : List Placed → Route → FlowGraph → Type 0 where

@@ -4,6 +4,7 @@ ghost use Rattle.graph_law.specs.Laying.{
   WhilesLie,
   TestsLie,
   LastPartsLie,
+  ThingsBegin,
 };
 ghost use Rattle.graph_law.specs.Leaving.{OneGuardAtMost, OneWayOut};
 ghost use Rattle.graph_law.specs.Lying.{BodiesLie, UnrollingLies};
@@ -57,4 +58,10 @@ pub fn branches_lie()
     ensures whiles { WhilesLie }
     ensures tests { TestsLie }
     ensures last_parts { LastPartsLie }
+{}
+
+/// What comes next begins, as standing says it, at the node where it lies or where a silent skip
+/// leads from there.
+pub fn things_begin()
+    ensures { ThingsBegin }
 {}

@@ -5,5 +5,5 @@ mod law;
 
 pub use law::{
     bodies_lie, branches_lie, moves_are_runs, one_guard_at_most, one_way_out,
-    silent_edges_are_moves, statements_are_laid, unrolling_lies,
+    silent_edges_are_moves, statements_are_laid, things_begin, unrolling_lies,
 };
