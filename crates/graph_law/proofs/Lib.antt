@@ -1,5 +1,6 @@
 pub mod Beginning
 pub mod Extending
+pub mod Fitting
 pub mod Guards
 pub mod Hoists
 pub mod Laying

@@ -1,3 +1,4 @@
+pub mod Fitting
 pub mod Laying
 pub mod Leaving
 pub mod Lying

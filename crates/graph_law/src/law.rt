@@ -1,3 +1,4 @@
+ghost use Rattle.graph_law.specs.Fitting.{GlobalsFit};
 ghost use Rattle.graph_law.specs.Laying.{
   StatementsAreLaid,
   BranchesLie,
@@ -64,4 +65,10 @@ pub fn branches_lie()
 /// leads from there.
 pub fn things_begin()
     ensures { ThingsBegin }
+{}
+
+/// At the end of each run of a well-made unit, so after each of its choices, the globals fit their
+/// declared widths.
+pub fn globals_fit()
+    ensures { GlobalsFit }
 {}
