@@ -5,6 +5,7 @@ pub mod Guards
 pub mod Hoists
 pub mod Laying
 pub mod Lying
+pub mod Quieting
 pub mod Running
 pub mod Settling
 pub mod Statements

@@ -9,6 +9,7 @@ ghost use Rattle.graph_law.specs.Laying.{
 };
 ghost use Rattle.graph_law.specs.Leaving.{OneGuardAtMost, OneWayOut};
 ghost use Rattle.graph_law.specs.Lying.{BodiesLie, UnrollingLies};
+ghost use Rattle.graph_law.specs.Quiet.{SilentEdgesAreQuiet};
 ghost use Rattle.graph_law.specs.Running.{MovesAreRuns};
 ghost use Rattle.graph_law.specs.Settling.{SilentEdgesAreMoves};
 
@@ -71,4 +72,9 @@ pub fn things_begin()
 /// declared widths.
 pub fn globals_fit()
     ensures { GlobalsFit }
+{}
+
+/// A silent edge is a skip, a guard, or an assignment to a temporary: no named slot changes by one.
+pub fn silent_edges_are_quiet()
+    ensures { SilentEdgesAreQuiet }
 {}
