@@ -4,4 +4,5 @@ pub mod Opening
 pub mod Passing
 pub mod Steps
 pub mod Unique
+pub mod UniqueStatement
 pub mod UniqueUnit
