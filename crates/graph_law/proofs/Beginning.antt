@@ -1,5 +1,5 @@
 -- What lies in a graph begins there as standing says it.
-use Rattle.std.proofs.Common.{◌≡◌, refl, sym, ap, ◌∙◌, subst, inl, inr, ℕ, zero, suc, ◌+◌, ◌<◌, Bool, true, false, List, [], ◌∷◌, ◌++◌, length, map, Option, None, Some, arith, length-append}
+use Rattle.std.proofs.Common.{◌≡◌, refl, sym, ap, ◌∙◌, subst, inl, inr, ℕ, zero, suc, ◌<◌, true, List, [], ◌∷◌, ◌++◌, length, map, Option, None, Some, arith, length-append}
 use Rattle.std.specs.Prelude.{slice_index_or, ◌⊎◌}
 use Rattle.std.specs.List.{Contains}
 use Rattle.std.specs.Option.{option_map, option_map_or}
@@ -11,12 +11,11 @@ use Rattle.gob_tree.specs.declared.stmt.Stmt.TheVariants.{outs-If, outs-While, o
 use Rattle.gob_tree.specs.declared.stmt.Placed.{Placed}
 use Rattle.gob_tree.specs.declared.unit.Function.{Function}
 use Rattle.gob_tree.specs.declared.graph.Action.TheVariants.{Skip}
-use Rattle.c_meaning.specs.declared.config.Todo.{Todo}
 use Rattle.c_meaning.specs.declared.config.Todo.TheVariants.{Stmt as Doing, Test, Last}
 use Rattle.c_meaning.specs.Graph.{FlowGraph, Route, Lowering, lowering_of, hoisted_expr, condition, for_first, for_head, next_node, with_node, first_route, for_route, last_node}
 use Rattle.c_meaning.specs.Walk.{Begun, Beginning, begun_in, begun_of, sequence_begun, last_begun, stmt_begun, parts_begun}
 use Rattle.c_meaning.proofs.Begins.{parted, begun_is}
-use Rattle.graph_law.specs.Lying.{at, start_of, for_condition, for_opened, Piece, alone, first_of, then_part, else_part, while_body, do_body, for_body, Series, body, behind, in_block, for_firsts, TestsAt, at_while, at_do, at_for, without_first, without_last, LastAt, at_last, Lies, nothing, does, tests, lasts}
+use Rattle.graph_law.specs.Lying.{at, start_of, for_condition, for_opened, Piece, alone, first_of, then_part, else_part, while_body, do_body, for_body, Series, body, behind, in_block, for_firsts, TestsAt, at_while, at_do, at_for, without_first, without_last, LastAt, at_last, does, tests, lasts}
 use Rattle.graph_law.specs.Laying.{HasEdge, ThingsBegin}
 use Rattle.graph_law.proofs.Laying.{skips_first, skips_last}
 

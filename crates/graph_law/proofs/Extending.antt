@@ -16,7 +16,7 @@ use Rattle.gob_tree.specs.declared.graph.Action.TheVariants.{Assign, Guard, Read
 use Rattle.gob_tree.proofs.Folds.{fold-Number, fold-Local, fold-Global, fold-Nondet, fold-Unary, fold-Binary, fold-Call}
 use Rattle.gob_tree.proofs.Induct.{Each, by_forms}
 use Rattle.c_meaning.specs.Demand.{truth}
-use Rattle.c_meaning.specs.Graph.{MarkedEdge, FlowGraph, Route, HoistState, Hoisted, Hoisting, Lowering, next_node, with_node, with_marked, with_guards, taking, free_temp, temp_slot, with_temp, fetch, stop_of, node_of, logic_at, logic_join, strict_join, binary_join, hoist_all, hoisting_step, hoisting_of, begun_at, hoisted_expr, hoisted_exprs, sequence, sequence_or_silent, part_or_silent, if_head, if_flow, while_head, while_flow, route_to, route_from, then_route, else_route, while_route, do_route, first_route, for_route, last_route, do_flow, for_first, for_head, for_flow, condition, lowering_step, placed_step, lowering_of}
+use Rattle.c_meaning.specs.Graph.{MarkedEdge, FlowGraph, Route, HoistState, Hoisted, Hoisting, Lowering, next_node, with_node, with_marked, taking, free_temp, temp_slot, with_temp, fetch, stop_of, node_of, logic_at, logic_join, strict_join, binary_join, hoist_all, hoisting_step, hoisting_of, begun_at, hoisted_expr, hoisted_exprs, sequence, sequence_or_silent, part_or_silent, if_head, if_flow, while_head, route_to, route_from, then_route, else_route, while_route, do_route, first_route, for_route, last_route, do_flow, for_first, for_head, for_flow, condition, lowering_step, placed_step, lowering_of}
 use Rattle.c_meaning.proofs.Growth.{append_nil}
 use Rattle.graph_law.specs.Laying.{Extends}
 

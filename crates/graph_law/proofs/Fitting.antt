@@ -1,11 +1,9 @@
 -- No step gives a global a number beyond its width.
-use Rattle.std.proofs.Common.{◌≡◌, refl, sym, ap, subst, ℕ, zero, suc, ℤ, pos, ◌≤ℤ◌, Bool, true, false, List, [], ◌∷◌, ◌++◌, map, Option, None, Some, Result, Ok, Err, FitsSigned, arith}
+use Rattle.std.proofs.Common.{◌≡◌, refl, subst, ℕ, zero, suc, ℤ, ◌≤ℤ◌, Bool, true, false, List, [], ◌∷◌, map, Option, None, Some, Result, Ok, Err, arith}
 use Rattle.std.specs.Prelude.{if◌then◌else◌, int_le, slice_set, slice_index_or, IsTrue, All}
-use Rattle.std.specs.Option.{option_map_or}
 use Rattle.std.specs.List.{AllByRecursion}
 use Rattle.std.proofs.lemmas.Int.{ints, SFits-int_wrap}
 use Rattle.gob_tree.specs.Widths.{fits, lowest, greatest}
-use Rattle.gob_tree.specs.WellMade.{IsWellMade}
 use Rattle.gob_tree.specs.declared.expr.Width.{Width}
 use Rattle.gob_tree.specs.declared.expr.Width.TheVariants.{W32, W64}
 use Rattle.gob_tree.specs.declared.stmt.Target.{Target}
@@ -21,7 +19,7 @@ use Rattle.c_meaning.specs.declared.config.Todo.{Todo}
 use Rattle.c_meaning.specs.declared.config.Todo.TheVariants.{Stmt as Doing, Test, Last}
 use Rattle.c_meaning.specs.Demand.{bits_of, conversion, is_zero}
 use Rattle.c_meaning.specs.Config.{Config, Effect, Keeps, SetsGlobal, SetsOwner, Starts, after_effect, global_width, thread_at, owner_at, owner_after_lock, owner_after_unlock}
-use Rattle.c_meaning.specs.Tree.{Frame, FrameStep, Goes, Waits, Fails, Site, layer_of, only, pass_step, owner_step, join_step, stmt_step, last_step, todo_step, front_step, frame_step, front_demand, has_ended, outcome_of, thread_step, tree_step, TreeStep, MovesTo, IsBlocked, IsFaulted, IsEnded, HasNoThread, first_tree}
+use Rattle.c_meaning.specs.Tree.{Frame, FrameStep, Goes, Waits, Fails, Site, layer_of, only, pass_step, owner_step, join_step, stmt_step, last_step, todo_step, front_step, frame_step, front_demand, has_ended, outcome_of, thread_step, TreeStep, MovesTo, IsBlocked, IsFaulted, IsEnded, HasNoThread, first_tree}
 use Rattle.c_meaning.specs.Run.{chosen, if_moved, moved_from}
 use Rattle.graph_law.specs.Fitting.{FitEach, GlobalsFit}
 

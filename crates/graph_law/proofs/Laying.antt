@@ -1,5 +1,5 @@
 -- The edges of what lies in a graph are edges of it.
-use Rattle.std.proofs.Common.{◌≡◌, refl, sym, ap, ◌∙◌, subst, inl, inr, ℕ, zero, suc, ◌+◌, ◌<◌, Bool, true, false, List, [], ◌∷◌, ◌++◌, length, map, Option, None, Some, arith, append_assoc, length-append}
+use Rattle.std.proofs.Common.{◌≡◌, refl, sym, ap, ◌∙◌, subst, inl, inr, ℕ, zero, suc, ◌+◌, ◌<◌, true, false, List, [], ◌∷◌, ◌++◌, length, map, Option, None, Some, arith, length-append}
 use Rattle.std.specs.Prelude.{slice_index_or, ◌⊎◌}
 use Rattle.std.specs.List.{Contains}
 use Rattle.std.specs.Option.{option_map, option_map_or}
@@ -10,16 +10,15 @@ use Rattle.gob_tree.specs.declared.stmt.Stmt.TheVariants.{outs-While, outs-DoWhi
 use Rattle.gob_tree.specs.declared.stmt.Stmt.TheOpen.{Stmt-F}
 use Rattle.gob_tree.specs.declared.stmt.Placed.{Placed}
 use Rattle.gob_tree.specs.declared.unit.Function.{Function}
-use Rattle.gob_tree.specs.declared.graph.Action.{Action}
 use Rattle.gob_tree.specs.declared.graph.Action.TheVariants.{Guard, Skip}
 use Rattle.c_meaning.specs.declared.config.Todo.{Todo}
 use Rattle.c_meaning.specs.declared.config.Todo.TheVariants.{Stmt as Doing, Test, Last}
-use Rattle.c_meaning.specs.Graph.{MarkedEdge, FlowGraph, Route, Hoisted, Lowering, lowering_of, lowering_step, next_node, with_node, with_marked, hoisted_expr, condition, sequence, if_head, while_head, for_first, then_route, else_route, while_route, do_route, for_route, last_route, last_node, route_to, route_from, part_or_silent, body_route, first_flow, flow_of}
+use Rattle.c_meaning.specs.Graph.{MarkedEdge, FlowGraph, Route, Lowering, lowering_of, next_node, with_node, with_marked, hoisted_expr, condition, sequence, if_head, while_head, for_first, then_route, else_route, while_route, do_route, for_route, last_route, last_node, route_to, route_from, part_or_silent, flow_of}
 use Rattle.c_meaning.specs.Tree.{turn_of, layer_of, test_exprs}
 use Rattle.c_meaning.proofs.Lowerings.{lowering-If, lowering-While, lowering-DoWhile, lowering-For, lowering-Block}
-use Rattle.graph_law.specs.Lying.{at, start_of, for_condition, for_opened, Piece, alone, first_of, then_part, else_part, while_body, do_body, for_body, Series, body, behind, in_block, for_firsts, TestsAt, at_while, at_do, at_for, without_first, without_last, LastAt, at_last, Lies, nothing, does, tests, lasts}
+use Rattle.graph_law.specs.Lying.{at, start_of, for_condition, for_opened, Piece, alone, first_of, then_part, else_part, while_body, do_body, for_body, Series, body, behind, in_block, for_firsts, TestsAt, at_while, at_do, at_for, without_first, without_last, LastAt, at_last, Lies, does, tests, lasts}
 use Rattle.graph_law.specs.Laying.{Extends, HasEdge, Laid, StatementsAreLaid, Splits, BranchesLie, WhilesLie, Tested, TestsLie, IsLastPart, last_of, LastPartsLie}
-use Rattle.graph_law.proofs.Extending.{extends_none, extends_then, extends_node, extends_edge, expr_extends, for_head_extends, extends_guards, LowerExtends, PartExtends, sequence_extends, lowerings_extend, every_extends, part_extends, for_rest_extends, do_rest_extends}
+use Rattle.graph_law.proofs.Extending.{extends_none, extends_then, extends_node, extends_edge, expr_extends, for_head_extends, extends_guards, PartExtends, sequence_extends, lowerings_extend, every_extends, part_extends, for_rest_extends, do_rest_extends}
 
 -- ---- what a piece draws
 

@@ -4,6 +4,7 @@ pub mod Fitting
 pub mod Guards
 pub mod Hoists
 pub mod Laying
+pub mod Keeping
 pub mod Lying
 pub mod Quieting
 pub mod Running

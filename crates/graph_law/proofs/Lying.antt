@@ -1,7 +1,6 @@
 -- What is unrolled lies where it lay before.
-use Rattle.std.proofs.Common.{◌≡◌, refl, sym, ap, subst, ℕ, List, [], ◌∷◌, ◌++◌, map, Option, None, Some}
+use Rattle.std.proofs.Common.{◌≡◌, refl, sym, ap, subst, ℕ, List, [], ◌∷◌, ◌++◌, map, None, Some}
 use Rattle.gob_tree.specs.declared.place.Place.{Place}
-use Rattle.gob_tree.specs.declared.expr.Expr.{Expr}
 use Rattle.gob_tree.specs.declared.stmt.Stmt.{Stmt, Declare, DeclareThread, Assign, CallOnly, If, While, DoWhile, For, Block, Break, Continue, Return, Create, Join, Lock, Unlock, Assert, Empty, map-Stmt, roll-Stmt}
 use Rattle.gob_tree.specs.declared.stmt.Stmt.TheOpen.{Stmt-F, Placed-F}
 use Rattle.gob_tree.specs.declared.stmt.Stmt.TheVariants.{rolls-Declare, rolls-DeclareThread, rolls-Assign, rolls-CallOnly, rolls-If, rolls-While, rolls-DoWhile, rolls-For, rolls-Block, rolls-Break, rolls-Continue, rolls-Return, rolls-Create, rolls-Join, rolls-Lock, rolls-Unlock, rolls-Assert, rolls-Empty}
@@ -12,7 +11,7 @@ use Rattle.c_meaning.specs.declared.config.Todo.TheVariants.{Stmt as Doing, Test
 use Rattle.c_meaning.specs.Tree.{statements, unrolling, with_front, after_break, after_continue}
 use Rattle.c_meaning.specs.Graph.{FlowGraph, Route, next_node, with_node, route_to, route_from, do_route, first_route, lowering_of, first_flow, body_route}
 use Rattle.c_meaning.proofs.Fronts.{front-Declare, front-DeclareThread, front-Assign, front-CallOnly, front-If, front-While, front-DoWhile, front-For, front-For_bare, front-Block, front-Block_empty, front-Break, front-Continue, front-Return, front-Create, front-Join, front-Lock, front-Unlock, front-Assert, front-Empty}
-use Rattle.graph_law.specs.Lying.{at, start_of, Piece, alone, first_of, do_body, Series, body, behind, in_block, for_firsts, TestsAt, at_do, at_for, without_first, Lies, nothing, does, tests, lasts, UnrollingLies, BodiesLie}
+use Rattle.graph_law.specs.Lying.{at, start_of, Piece, alone, first_of, do_body, Series, body, behind, in_block, for_firsts, at_do, at_for, without_first, Lies, nothing, does, tests, UnrollingLies, BodiesLie}
 
 -- ---- jumps over statements
 

@@ -1,7 +1,6 @@
 -- What is drawn silently leaves named slots alone.
 use Rattle.std.proofs.Common.{◌≡◌, refl, sym, ap, subst, ℕ, pos, ◌+◌, ◌≤◌, Bool, true, false, List, [], ◌∷◌, ◌++◌, length, map, Option, None, Some, arith}
 use Rattle.std.specs.Prelude.{if◌then◌else◌}
-use Rattle.std.specs.List.{Contains}
 use Rattle.std.specs.Option.{option_map_or}
 use Rattle.gob_tree.specs.declared.place.Place.{Place}
 use Rattle.gob_tree.specs.declared.expr.Width.{Width}
@@ -13,13 +12,12 @@ use Rattle.gob_tree.specs.declared.stmt.Target.{Target}
 use Rattle.gob_tree.specs.declared.stmt.Stmt.{Stmt, fold-Stmt, fold-roll-Stmt, map-Stmt, roll-Stmt}
 use Rattle.gob_tree.specs.declared.stmt.Stmt.TheOpen.{Stmt-F, Placed-F}
 use Rattle.gob_tree.specs.declared.stmt.Placed.{Placed, fold-roll-Placed, ind-Placed, map-Placed, roll-Placed}
-use Rattle.gob_tree.specs.declared.unit.Function.{Function}
 use Rattle.gob_tree.specs.declared.graph.Action.{Action}
 use Rattle.gob_tree.specs.declared.graph.Action.TheVariants.{Assign, Guard, Read, Nondet, Call, Skip}
 use Rattle.gob_tree.proofs.Folds.{fold-Number, fold-Local, fold-Global, fold-Nondet, fold-Unary, fold-Binary, fold-Call}
 use Rattle.gob_tree.proofs.Induct.{Each, by_forms}
 use Rattle.c_meaning.specs.Demand.{truth}
-use Rattle.c_meaning.specs.Graph.{MarkedEdge, FlowGraph, Route, HoistState, Hoisted, Hoisting, Lowering, next_node, with_node, with_marked, with_edge, with_silent, with_guards, taking, free_temp, temp_slot, number_or_next, with_temp, fetch, stop_of, node_of, logic_at, logic_join, strict_join, binary_join, hoist_all, hoisting_step, hoisting_of, begun_at, hoisted_expr, hoisted_exprs, sequence, sequence_or_silent, part_or_silent, if_head, if_flow, while_head, route_to, route_from, then_route, else_route, while_route, do_route, first_route, for_route, last_route, for_first, for_head, for_flow, condition, lowering_step, placed_step, lowering_of, first_flow, body_route, flow_of}
+use Rattle.c_meaning.specs.Graph.{MarkedEdge, FlowGraph, Route, HoistState, Hoisted, Hoisting, Lowering, next_node, with_node, with_edge, with_silent, with_guards, taking, free_temp, temp_slot, with_temp, fetch, stop_of, node_of, logic_at, logic_join, strict_join, binary_join, hoist_all, hoisting_step, hoisting_of, begun_at, hoisted_expr, hoisted_exprs, sequence, sequence_or_silent, part_or_silent, if_head, if_flow, while_head, route_to, route_from, then_route, else_route, while_route, do_route, first_route, for_route, last_route, for_first, for_flow, condition, lowering_step, placed_step, lowering_of, first_flow, body_route, flow_of}
 use Rattle.c_meaning.proofs.Growth.{each_at}
 use Rattle.graph_law.specs.Quiet.{IsQuiet, SilentEdgesAreQuiet}
 

@@ -10,12 +10,12 @@ use Rattle.gob_tree.specs.declared.graph.Action.{Action}
 use Rattle.gob_tree.specs.declared.graph.Action.TheVariants.{Assign, Read, Write, Nondet, Guard, Assert, Lock, Unlock, Create, Join, Call, Skip}
 use Rattle.gob_tree.specs.declared.graph.Edge.{Edge}
 use Rattle.gob_tree.specs.declared.graph.FuncGraph.{FuncGraph}
-use Rattle.c_meaning.specs.Config.{Config, Keeps, thread_at, with_thread, after_effect}
-use Rattle.c_meaning.specs.Graph.{MarkedEdge, MarkedProgram, marked_of, program_of, flow_of, graph_of}
+use Rattle.c_meaning.specs.Config.{Config, thread_at, with_thread}
+use Rattle.c_meaning.specs.Graph.{MarkedEdge, marked_of, program_of, flow_of, graph_of}
 use Rattle.c_meaning.specs.GraphStep as Graph
 use Rattle.c_meaning.specs.GraphStep.{Label, Do, Site, Acted, edge_at, local_slots, slots_effect, action_effect, after_edge, frame_moved, site_after, thread_after, after_label}
-use Rattle.c_meaning.specs.Walk.{Moment, Settled, Move, Walked, moment_after, silent_slots, first_or, silent_from, settled_or, settled_within, settled_from, with_edge, after_moves, moves_by, walk_on, marked_edges_at, silent_labels, after_silent, frames_at}
-use Rattle.graph_law.specs.Settling.{settled_frame, with_settled, SilentEdgesAreMoves}
+use Rattle.c_meaning.specs.Walk.{Moment, moment_after, silent_slots, first_or, silent_from, settled_or, settled_within, after_moves, moves_by, walk_on, marked_edges_at, silent_labels}
+use Rattle.graph_law.specs.Settling.{settled_frame, SilentEdgesAreMoves}
 
 -- ---- lists
 
@@ -52,19 +52,20 @@ thread_set threads (suc i) a b e = get_set threads i a b e
 
 -- ---- the edge that is found
 
-record Found (slots : List Slot) (all : List MarkedEdge) (m : Moment) (e : ℕ) (next : Moment) : Type 0 where
-  edge : MarkedEdge
-  there : slice_get all e ≡ Some edge
-  leaves : nat_eq edge.edge.from m.node ≡ true
-  done : local_slots slots edge.edge.act m.slots ≡ Some next.slots
-  leads : next.node ≡ edge.edge.to
+pub record Found (slots : List Slot) (all : List MarkedEdge) (m : Moment) (e : ℕ) (next : Moment) : Type 0 where
+  pub edge : MarkedEdge
+  pub there : slice_get all e ≡ Some edge
+  pub leaves : nat_eq edge.edge.from m.node ≡ true
+  pub done : local_slots slots edge.edge.act m.slots ≡ Some next.slots
+  pub leads : next.node ≡ edge.edge.to
+  pub is_silent : edge.silent ≡ true
 
-done_here : (silent here : Bool) (act : Option (List ℤ)) (values : List ℤ) → (if silent && here then act else None) ≡ Some values → (here ≡ true) × (act ≡ Some values)
-done_here true true act values e = (refl, e)
+done_here : (silent here : Bool) (act : Option (List ℤ)) (values : List ℤ) → (if silent && here then act else None) ≡ Some values → (here ≡ true) × (act ≡ Some values) × (silent ≡ true)
+done_here true true act values e = (refl, e, refl)
 done_here true false act values e = cc
 done_here false here act values e = cc
 
-found : (slots : List Slot) (front ds : List MarkedEdge) (m : Moment) (i e : ℕ) (next : Moment) → length front ≡ i → silent_from slots ds i m ≡ Some (e, next) → Found slots (front ++ ds) m e next
+pub found : (slots : List Slot) (front ds : List MarkedEdge) (m : Moment) (i e : ℕ) (next : Moment) → length front ≡ i → silent_from slots ds i m ≡ Some (e, next) → Found slots (front ++ ds) m e next
 found slots front [] m i e next at q = cc
 found slots front (d ∷ ds) m i e next at q =
     go (silent_slots slots d m) refl
@@ -84,6 +85,7 @@ found slots front (d ∷ ds) m i e next at q =
           leaves = t.0;
           done = t.1 ∙ ap (λ (n : Moment). Some n.slots) to;
           leads = ap (λ (n : Moment). n.node) (sym to);
+          is_silent = t.2;
         }
 
 -- ---- one silent edge

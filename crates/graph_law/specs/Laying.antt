@@ -12,7 +12,7 @@ use Rattle.gob_tree.specs.declared.graph.Action.TheVariants.{Guard, Skip}
 use Rattle.c_meaning.specs.declared.config.Todo.{Todo}
 use Rattle.c_meaning.specs.declared.config.Todo.TheVariants.{Stmt as Doing, Test, Last}
 use Rattle.c_meaning.specs.Tree.{after_break, after_continue, turn_of, layer_of, test_exprs}
-use Rattle.c_meaning.specs.Graph.{MarkedEdge, FlowGraph, Route, Hoisted, lowering_of, hoisted_expr, flow_of}
+use Rattle.c_meaning.specs.Graph.{MarkedEdge, FlowGraph, Route, lowering_of, hoisted_expr, flow_of}
 use Rattle.c_meaning.specs.Walk.{begun_of}
 use Rattle.graph_law.specs.Lying.{at, Lies}
 

@@ -11,7 +11,7 @@ use Rattle.gob_tree.specs.declared.stmt.Placed.{Placed}
 use Rattle.gob_tree.specs.declared.unit.Function.{Function}
 use Rattle.c_meaning.specs.declared.config.Todo.{Todo}
 use Rattle.c_meaning.specs.declared.config.Todo.TheVariants.{Stmt as Doing, Test, Last}
-use Rattle.c_meaning.specs.Tree.{statements, unrolling, with_front, after_break, after_continue}
+use Rattle.c_meaning.specs.Tree.{statements, unrolling, after_break, after_continue}
 use Rattle.c_meaning.specs.Graph.{FlowGraph, Route, Hoisted, lowering_of, next_node, with_node, route_to, route_from, then_route, else_route, while_route, do_route, first_route, for_route, last_node, hoisted_expr, condition, if_head, while_head, for_first, for_head, first_flow, body_route}
 
 -- a statement at a place

@@ -9,7 +9,7 @@ ghost use Rattle.graph_law.specs.Laying.{
 };
 ghost use Rattle.graph_law.specs.Leaving.{OneGuardAtMost, OneWayOut};
 ghost use Rattle.graph_law.specs.Lying.{BodiesLie, UnrollingLies};
-ghost use Rattle.graph_law.specs.Quiet.{SilentEdgesAreQuiet};
+ghost use Rattle.graph_law.specs.Quiet.{SilentEdgesAreQuiet, SettlingKeepsNamed};
 ghost use Rattle.graph_law.specs.Running.{MovesAreRuns};
 ghost use Rattle.graph_law.specs.Settling.{SilentEdgesAreMoves};
 
@@ -74,7 +74,9 @@ pub fn globals_fit()
     ensures { GlobalsFit }
 {}
 
-/// A silent edge is a skip, a guard, or an assignment to a temporary: no named slot changes by one.
+/// A silent edge is a skip, a guard, or an assignment to a temporary. So a frame keeps its named
+/// slots over the silent edges that it does while one can be done.
 pub fn silent_edges_are_quiet()
-    ensures { SilentEdgesAreQuiet }
+    ensures edges { SilentEdgesAreQuiet }
+    ensures named { SettlingKeepsNamed }
 {}
