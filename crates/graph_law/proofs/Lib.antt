@@ -1,3 +1,4 @@
+pub mod Entering
 pub mod Beginning
 pub mod Extending
 pub mod Fitting

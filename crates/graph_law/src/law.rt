@@ -1,3 +1,4 @@
+ghost use Rattle.graph_law.specs.Entering.{NewFramesStand};
 ghost use Rattle.graph_law.specs.Fitting.{GlobalsFit};
 ghost use Rattle.graph_law.specs.Laying.{
   StatementsAreLaid,
@@ -79,4 +80,10 @@ pub fn globals_fit()
 pub fn silent_edges_are_quiet()
     ensures edges { SilentEdgesAreQuiet }
     ensures named { SettlingKeepsNamed }
+{}
+
+/// A new frame stands: the tree's list to do and the graph's entry, moved on by the silent edges,
+/// are the same moment, with the same named slots. It is so for `main`, a call and a new thread.
+pub fn new_frames_stand()
+    ensures { NewFramesStand }
 {}
