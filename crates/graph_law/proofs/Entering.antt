@@ -155,7 +155,7 @@ params_room [] args = refl
 params_room (x ∷ xs) [] = ap suc (params_room xs [])
 params_room (x ∷ xs) (n ∷ args) = ap suc (params_room xs args)
 
-first_room : (xs : List Slot) (args : List ℤ) → length (first_values xs args) ≡ length xs
+pub first_room : (xs : List Slot) (args : List ℤ) → length (first_values xs args) ≡ length xs
 first_room [] args = refl
 first_room (x ∷ xs) args = ap suc (params_room xs args)
 

@@ -10,5 +10,6 @@ pub mod Lying
 pub mod Quieting
 pub mod Running
 pub mod Settling
+pub mod Starting
 pub mod Statements
 pub mod Steps

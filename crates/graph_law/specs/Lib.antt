@@ -6,3 +6,4 @@ pub mod Lying
 pub mod Quiet
 pub mod Running
 pub mod Settling
+pub mod Starting

@@ -12,6 +12,7 @@ ghost use Rattle.graph_law.specs.Leaving.{OneGuardAtMost, OneWayOut};
 ghost use Rattle.graph_law.specs.Lying.{BodiesLie, UnrollingLies};
 ghost use Rattle.graph_law.specs.Quiet.{SilentEdgesAreQuiet, SettlingKeepsNamed};
 ghost use Rattle.graph_law.specs.Running.{MovesAreRuns};
+ghost use Rattle.graph_law.specs.Starting.{FirstStands};
 ghost use Rattle.graph_law.specs.Settling.{SilentEdgesAreMoves};
 
 /// The edges that leave a node of a function's graph are one, or the two opposite guards of one
@@ -86,4 +87,10 @@ pub fn silent_edges_are_quiet()
 /// are the same moment, with the same named slots. It is so for `main`, a call and a new thread.
 pub fn new_frames_stand()
     ensures { NewFramesStand }
+{}
+
+/// Before the first choice of a run of a well-made unit its walk is there, and the graphs stand for
+/// the trees.
+pub fn first_stands()
+    ensures { FirstStands }
 {}
