@@ -115,3 +115,36 @@ module _ (u : Unknown) where
 pub there_value : (o : Option Value) → IsSome o → (v : Value) × (o ≡ Some v)
 there_value None there = absurd (true≢false (sym there))
 there_value (Some v) there = (v, refl)
+
+-- a table with entries added at its end
+module _ (r : Unknown) where
+  front_step : (e : Unknown × Value) (s t : TableValue) (v : Value) (b : Bool) → (value_at s r ≡ Some v → value_at (s ++ t) r ≡ Some v) → cond b (Some e.1) (value_at s r) ≡ Some v → cond b (Some e.1) (value_at (s ++ t) r) ≡ Some v
+  front_step e s t v true later at = at
+  front_step e s t v false later at = later at
+
+  pub value_at-appended : (s t : TableValue) (v : Value) → value_at s r ≡ Some v → value_at (s ++ t) r ≡ Some v
+  value_at-appended [] t v at = absurd (true≢false (sym (ap is_some at)))
+  value_at-appended (e ∷ s) t v at = front_step e s t v (unknown_eq r e.0) (value_at-appended s t v) at
+
+  absent_step : (e : Unknown × Value) (s t : TableValue) (b : Bool) → (value_at s r ≡ None → value_at (s ++ t) r ≡ value_at t r) → cond b (Some e.1) (value_at s r) ≡ None → cond b (Some e.1) (value_at (s ++ t) r) ≡ value_at t r
+  absent_step e s t true later at = absurd (true≢false (ap is_some at))
+  absent_step e s t false later at = later at
+
+  pub value_at-absent : (s t : TableValue) → value_at s r ≡ None → value_at (s ++ t) r ≡ value_at t r
+  value_at-absent [] t none = refl
+  value_at-absent (e ∷ s) t none = absent_step e s t (unknown_eq r e.0) (value_at-absent s t) none
+
+  front_kept : (s t : TableValue) (o : Option Value) → value_at s r ≡ o → IsSome o → value_at (s ++ t) r ≡ value_at s r
+  front_kept s t None at there = absurd (true≢false (sym there))
+  front_kept s t (Some v) at there = value_at-appended s t v at ∙ sym at
+
+  pub value_at-kept : (s t : TableValue) → IsThere s r → value_at (s ++ t) r ≡ value_at s r
+  value_at-kept s t there = front_kept s t (value_at s r) refl there
+
+  either_front : (s t : TableValue) (v : Value) → value_at (s ++ t) r ≡ Some v → (o : Option Value) → value_at s r ≡ o → (value_at s r ≡ Some v) ⊎ ((value_at s r ≡ None) × (value_at t r ≡ Some v))
+  either_front s t v at None none = inr (none, sym (value_at-absent s t none) ∙ at)
+  either_front s t v at (Some w) some = inl (sym (value_at-kept s t (ap is_some some)) ∙ at)
+
+  -- an entry of the longer table is one of the two
+  pub value_at-either : (s t : TableValue) (v : Value) → value_at (s ++ t) r ≡ Some v → (value_at s r ≡ Some v) ⊎ ((value_at s r ≡ None) × (value_at t r ≡ Some v))
+  value_at-either s t v at = either_front s t v at (value_at s r) refl

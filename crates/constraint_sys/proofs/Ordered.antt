@@ -1,5 +1,5 @@
 -- Lists without regard to order, and lists that ascend, as their elements come and go.
-use Rattle.std.proofs.Common.{◌≡◌, ◌≢◌, ℕ, zero, suc, ◌+◌, ◌-◌, ◌<◌, ◌≤◌, ◌⊎◌, ◌↔◌, inl, inr, Bool, true, false, cond, List, [], ◌∷◌, ◌++◌, map, length, drop, drop-cons, add-one, get_or, refl, sym, ap, subst, ◌∙◌, arith}
+use Rattle.std.proofs.Common.{◌≡◌, ◌≢◌, ℕ, zero, suc, ◌+◌, ◌-◌, ◌<◌, ◌≤◌, ◌⊎◌, ◌↔◌, inl, inr, Bool, true, false, cond, List, [], ◌∷◌, ◌++◌, map, length, take, drop, drop-cons, add-one, get_or, refl, sym, ap, subst, ◌∙◌, arith}
 use Rattle.std.specs.Prelude.{Contains, filter, insert, IsSorted}
 use Rattle.std.specs.List.{flat_map}
 use Rattle.std.specs.Ordering.{is_lt}
@@ -8,6 +8,8 @@ use Rattle.std.specs.declared.cmp.Ordering.TheVariants.{Less, Greater}
 use Rattle.std.specs.Cmp.{IsTotalOrder}
 use Rattle.std.proofs.lemmas.Bool.{cases_eq, cases_lt}
 use Rattle.std.proofs.lemmas.List.Edits.{get_or-insert_below, get_or-insert_at, get_or-insert_above, length-insert}
+use Rattle.std.proofs.lemmas.List.{take_all, take_more}
+use Rattle.std.proofs.lemmas.List.Elements.{Contains-append_cases, Contains-append_left, Contains-append_right}
 use Rattle.std.proofs.lemmas.List.Sorted.{IsPermutation-insert, IsPermutation-sym, Contains-permutation}
 
 module _ {X : Type 0} where
@@ -105,6 +107,29 @@ module _ {X : Type 0} where
     λ one. elim (put.0 one) [ inl left ↦ inl (took.0 left) | inr added ↦ inr added ],
     λ either. put.1 (elim either [ inl left ↦ inl (took.1 left) | inr added ↦ inr added ]),
   )
+
+module _ {X : Type 0} where
+  pub take_read : (xs : List X) (i : ℕ) (x : X) → i < length xs → x ≡ get_or xs i x → take (i + 1) xs ≡ take i xs ++ x ∷ []
+  take_read xs i x within is = take_more xs i x within ∙ ap (λ (z : X). take i xs ++ z ∷ []) (sym is)
+
+  -- one element more
+  pub Contains-push : (xs : List X) (x q : X) → Contains (xs ++ x ∷ []) q ↔ (Contains xs q ⊎ (q ≡ x))
+  Contains-push xs x q = (
+    λ one. elim (Contains-append_cases xs (x ∷ []) q one) [
+      | inl old ↦ inl old
+      | inr last ↦ elim (Contains-cases x q [] last) [ inl same ↦ inr same | inr none ↦ absurd (Contains-nil q none) ]
+    ],
+    λ either. elim either [
+      | inl old ↦ Contains-append_left xs (x ∷ []) q old
+      | inr same ↦ subst (λ (z : X). Contains (xs ++ x ∷ []) z) (sym same) (Contains-append_right xs (x ∷ []) x (Contains-head x []))
+    ],
+  )
+
+  pub Contains-take_more : (xs : List X) (i : ℕ) (x q : X) → i < length xs → x ≡ get_or xs i x → Contains (take (i + 1) xs) q ↔ (Contains (take i xs) q ⊎ (q ≡ x))
+  Contains-take_more xs i x q within is = subst (λ (l : List X). Contains l q ↔ (Contains (take i xs) q ⊎ (q ≡ x))) (sym (take_read xs i x within is)) (Contains-push (take i xs) x q)
+
+  pub Contains-take_all : (xs : List X) (i : ℕ) (q : X) → length xs ≤ i → Contains (take i xs) q ↔ Contains xs q
+  Contains-take_all xs i q past = subst (λ (l : List X). Contains l q ↔ Contains xs q) (sym (take_all i xs past)) (λ one. one, λ one. one)
 
 module _ {Y : Type 0} where
   pub Contains-append : (xs ys : List Y) (y : Y) → Contains (xs ++ ys) y → Contains xs y ⊎ Contains ys y

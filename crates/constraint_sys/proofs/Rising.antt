@@ -1,147 +1,130 @@
--- What a turn of a point raises, who sees it, and what is dirty then.
-use Rattle.std.proofs.Common.{◌≡◌, ◌≢◌, ◌↔◌, ℕ, zero, suc, ◌⊎◌, ℤ, List, [], Option, None, Some, refl, sym, ap, ◌∙◌, arith, subst, inl, inr, is_some, true≢false}
-use Rattle.std.specs.Prelude.{Contains, IsSome}
-use Rattle.gob_tree.specs.Built.{HasBuiltActions}
+-- Which unknowns rise by raises: the targets that didn't bound what raised them.
+use Rattle.std.proofs.Common.{◌≡◌, ◌≢◌, ◌↔◌, zero, suc, ◌⊎◌, inl, inr, List, [], ◌∷◌, Option, None, Some, refl, sym, ap, ◌∙◌, subst, is_some, true≢false}
+use Rattle.std.specs.Prelude.{All, Contains, IsSome, filter}
+use Rattle.std.proofs.lemmas.List.Elements.{All-contains, All-head, All-tail}
 use Rattle.gob_tree.specs.declared.graph.Program.{Program}
-use Rattle.gob_tree.specs.declared.unit.Slot.{Slot}
-use Rattle.state_dom.specs.StateValue.{StateValue, Bottom, Reached, CoversState, raised_by, HasShape}
+use Rattle.state_dom.specs.StateValue.{Bottom, Reached}
 use Rattle.state_dom.specs.ThresholdValues.{thresholds_of}
-use Rattle.state_dom.proofs.Bounding.{raised_by-covered}
-use Rattle.state_dom.proofs.Deciding.{cases_CoversState}
-use Rattle.constraint_sys.specs.declared.unknown.Key.{Key}
 use Rattle.constraint_sys.specs.declared.unknown.Unknown.{Unknown}
 use Rattle.constraint_sys.specs.declared.unknown.Unknown.TheVariants.{Point, Global}
 use Rattle.constraint_sys.specs.declared.value.Effect.{Effect}
 use Rattle.constraint_sys.specs.declared.value.Value.{Value}
-use Rattle.constraint_sys.specs.declared.value.Value.TheVariants.{State}
-use Rattle.constraint_sys.specs.Contribution.{contribution_of, read_by}
-use Rattle.constraint_sys.specs.Table.{TableValue, value_at, with_value, IsThere, shown}
-use Rattle.constraint_sys.specs.Turn.{Solving, IsDirtyAfter, IsBrought, Rose, table_after, raised_in, raised_in_each, raised_entry}
-use Rattle.constraint_sys.proofs.Entries.{value_at-set, value_at-other, cases_unknown}
-use Rattle.constraint_sys.proofs.Quiet.{no_effects}
-use Rattle.constraint_sys.proofs.Shaping.{CoversState-raised, room_of-shaped}
+use Rattle.constraint_sys.specs.declared.value.Value.TheVariants.{State, Number}
+use Rattle.constraint_sys.specs.Arising.{CanRaise}
+use Rattle.constraint_sys.specs.PostSolution.{BoundsAt, CoversValue}
+use Rattle.constraint_sys.specs.Sound.{IsShaped, IsShapedEntry}
+use Rattle.constraint_sys.specs.Table.{TableValue, IsThere, shown, value_at}
+use Rattle.constraint_sys.specs.Turn.{Rose, arising, fellows, is_absent, raised_entry, raised_in, raised_in_each, raised_value}
+use Rattle.constraint_sys.proofs.Covering.{AreAlike-shaped, cases_CoversValue, raised_value-same}
+use Rattle.constraint_sys.proofs.Entries.{AllEntries, cases_unknown, value_at-absent, value_at-all, value_at-kept, value_at-other, value_at-past, value_at-set}
+use Rattle.constraint_sys.proofs.Locality.{ShowsSame}
+use Rattle.constraint_sys.proofs.Numbered.{AllEntries-numbers}
+use Rattle.constraint_sys.proofs.Ordered.{Contains-cases, Contains-head, Contains-nil, Contains-tail}
+use Rattle.constraint_sys.proofs.Raising.{AllEntries-filter, All-CanRaise_grown, Raises-one, RaisesEach-list}
 
--- one state of the table goes from a to b
-pub record ChangesAt (old new : TableValue) (u : Unknown) (a b : StateValue) : Type 0 where
-  pub before : value_at old u ≡ Some (State a)
-  pub after : value_at new u ≡ Some (State b)
-  pub others : (r : Unknown) → r ≢ u → value_at new r ≡ value_at old r
+-- a raise of this unknown that the table doesn't bound
+abbrev pub IsUnbounded : TableValue → List Effect → Unknown → Type 0
+IsUnbounded t es r = (e : Effect) × Contains es e × (e.target ≡ r) × (BoundsAt t e.target e.value → ⊥)
 
--- a turn raises its point, and does nothing else
-pub table_after-point : (p : Program) (t : TableValue) (f : ℕ) (key : Key) (node : ℕ) (a : StateValue) → HasBuiltActions p → value_at t (Point f key node) ≡ Some (State a)
-    → table_after p t (Point f key node) ≡ with_value t (Point f key node) (State (raised_by (thresholds_of p) a (contribution_of p t f key node).value))
-table_after-point p t f key node a built at =
-    let c = contribution_of p t f key node in
-    ap (λ (es : List Effect). raised_in_each p (raised_in p t (Point f key node) (State c.value)) es) (no_effects p t f key node built)
-    ∙ ap (λ (o : Option Value). raised_entry p t (Point f key node) (State c.value) o) at
+-- ---- what isn't bounded rises
+shown_bounds : (o new : Option Value) (v : Value) → (IsSome o ⊎ (shown (Some v) ≡ Some v)) → shown new ≡ shown o → CoversValue new v → CoversValue o v
+shown_bounds o None v there same covers = absurd covers
+shown_bounds None (Some (State (Bottom room))) (State (Bottom other)) there same covers = elim there [ inl some ↦ absurd (true≢false (sym some)) | inr shows ↦ absurd (true≢false (sym (ap is_some shows))) ]
+shown_bounds (Some (State a)) (Some (State (Bottom room))) (State (Bottom other)) there same covers = tt
+shown_bounds (Some (Number x)) (Some (State (Bottom room))) (State (Bottom other)) there same covers = absurd (true≢false (sym (ap is_some same)))
+shown_bounds o (Some (State (Bottom room))) (State (Reached ys m)) there same covers = absurd covers
+shown_bounds o (Some (State (Bottom room))) (Number y) there same covers = absurd covers
+shown_bounds None (Some (State (Reached xs l))) v there same covers = absurd (true≢false (ap is_some same))
+shown_bounds (Some (State (Bottom room))) (Some (State (Reached xs l))) v there same covers = absurd (true≢false (ap is_some same))
+shown_bounds (Some (State (Reached zs n))) (Some (State (Reached xs l))) v there same covers = subst (λ (o : Option Value). CoversValue o v) same covers
+shown_bounds (Some (Number z)) (Some (State (Reached xs l))) v there same covers = subst (λ (o : Option Value). CoversValue o v) same covers
+shown_bounds None (Some (Number x)) v there same covers = absurd (true≢false (ap is_some same))
+shown_bounds (Some (State (Bottom room))) (Some (Number x)) v there same covers = absurd (true≢false (ap is_some same))
+shown_bounds (Some (State (Reached zs n))) (Some (Number x)) v there same covers = subst (λ (o : Option Value). CoversValue o v) same covers
+shown_bounds (Some (Number z)) (Some (Number x)) v there same covers = subst (λ (o : Option Value). CoversValue o v) same covers
 
-pub ChangesAt-turn : (p : Program) (t new : TableValue) (f : ℕ) (key : Key) (node : ℕ) (a : StateValue) → HasBuiltActions p → value_at t (Point f key node) ≡ Some (State a) → new ≡ table_after p t (Point f key node)
-    → ChangesAt t new (Point f key node) a (raised_by (thresholds_of p) a (contribution_of p t f key node).value)
-ChangesAt-turn p t new f key node a built at is =
-    let b = raised_by (thresholds_of p) a (contribution_of p t f key node).value in
-    let same = is ∙ table_after-point p t f key node a built at in
-    record {
-      before = at;
-      after = ap (λ (s : TableValue). value_at s (Point f key node)) same ∙ value_at-set t (Point f key node) (State b);
-      others = λ r other. ap (λ (s : TableValue). value_at s r) same ∙ value_at-other t (Point f key node) (State b) r other;
-    }
+there_or_shown : (p : Program) (t : TableValue) (e : Effect) → CanRaise p t e → IsThere t e.target ⊎ (shown (Some e.value) ≡ Some e.value)
+there_or_shown p t e can = elim can.target [ inl there ↦ inl there | inr may ↦ inr may.1 ]
 
--- the same unknowns are there
-module _ (old new : TableValue) (u : Unknown) (a b : StateValue) (changes : ChangesAt old new u a b) where
-  is_some-kept : (r : Unknown) → is_some (value_at new r) ≡ is_some (value_at old r)
-  is_some-kept r = elim (cases_unknown r u) [
-    | inl same ↦ subst (λ (q : Unknown). is_some (value_at new q) ≡ is_some (value_at old q)) (sym same) (ap is_some changes.after ∙ sym (ap is_some changes.before))
-    | inr other ↦ ap is_some (changes.others r other)
-  ]
+pub Rose-unbounded : (p : Program) (t : TableValue) (es : List Effect) → IsShaped p t → All (CanRaise p t) es → (r : Unknown) → IsUnbounded t es r → Rose t (raised_in_each p t es) r
+Rose-unbounded p t es shaped can r (e, one, is, fails) same =
+    let new = raised_in_each p t es in
+    let bounded : BoundsAt new e.target e.value = All-contains (λ (x : Effect). BoundsAt new x.target x.value) es e (RaisesEach-list p t es shaped can).bounded one in
+    fails (shown_bounds (value_at t e.target) (value_at new e.target) e.value (there_or_shown p t e (All-contains (CanRaise p t) es e can one)) (subst (λ (q : Unknown). shown (value_at new q) ≡ shown (value_at t q)) (sym is) same) bounded)
 
-  pub IsThere-kept : (r : Unknown) → IsThere old r → IsThere new r
-  IsThere-kept r there = is_some-kept r ∙ there
+-- ---- what is bounded doesn't rise
+-- the entries that come with an unknown are Bottom
+abbrev IsBottomEntry : Unknown → Value → Type 0
+IsBottomEntry q w = shown (Some w) ≡ None
 
-  pub IsThere-before : (r : Unknown) → IsThere new r → IsThere old r
-  IsThere-before r there = sym (is_some-kept r) ∙ there
+fellows_bottom : (p : Program) (u : Unknown) → AllEntries IsBottomEntry (fellows p u)
+fellows_bottom p (Point f key zero) = AllEntries-numbers IsBottomEntry _ 1 _ (λ i low high. refl)
+fellows_bottom p (Point f key (suc node)) = tt
+fellows_bottom p (Global g) = tt
 
-pub there_from : (o : Option Value) → o ≢ None → IsSome o
-there_from None some = absurd (some refl)
-there_from (Some v) some = refl
+shown_fellow : (p : Program) (t : TableValue) (u r : Unknown) (o : Option Value) → value_at (filter (is_absent t) (fellows p u)) r ≡ o → shown o ≡ None
+shown_fellow p t u r None at = refl
+shown_fellow p t u r (Some w) at = value_at-all IsBottomEntry (filter (is_absent t) (fellows p u)) (AllEntries-filter IsBottomEntry (is_absent t) (fellows p u) (fellows_bottom p u)) r w at
 
-pub some_from : (o : Option Value) → IsSome o → o ≢ None
-some_from o there none = true≢false (sym there ∙ ap is_some none)
+-- another unknown shows the same after one raise
+other_same : (p : Program) (t : TableValue) (u r : Unknown) (v : Value) → r ≢ u → (o : Option Value) → value_at t u ≡ o → (q : Option Value) → value_at t r ≡ q → ShowsSame t (raised_entry p t u v o) r
+other_same p t u r v other (Some old) at q here = ap shown (value_at-other t u (raised_value (thresholds_of p) old v) r other)
+other_same p t u r v other None at (Some w) here = ap shown (value_at-kept r t (arising p t u v) (ap is_some here))
+other_same p t u r v other None at None here =
+    ap shown (value_at-absent r t (arising p t u v) here) ∙ ap shown (value_at-past r ((u, v) ∷ []) (filter (is_absent t) (fellows p u)) (other, tt))
+    ∙ shown_fellow p t u r (value_at (filter (is_absent t) (fellows p u)) r) refl ∙ sym (ap shown here)
 
-pub nothing_in : {X : Type 0} (x : X) → Contains [] x → ⊥
-nothing_in x (k, within, at) = omega arith
+-- a raise by what is bounded changes nothing there
+same_itself : (p : Program) (t : TableValue) (u : Unknown) (v : Value) → IsShaped p t → IsShapedEntry p u v → (o : Option Value) → value_at t u ≡ o → CoversValue o v → ShowsSame t (raised_entry p t u v o) u
+same_itself p t u v shaped fits None at covers = absurd covers
+same_itself p t u v shaped fits (Some old) at covers =
+    ap shown (value_at-set t u (raised_value (thresholds_of p) old v) ∙ ap Some (raised_value-same (thresholds_of p) old v (AreAlike-shaped p u old v (shaped u old at) fits) covers) ∙ sym at)
 
--- what a reader sees of a raised state tells whether it bounded the other before
-shown-covers : (a b c : StateValue) → shown (Some (State b)) ≡ shown (Some (State a)) → CoversState b c → CoversState a c
-shown-covers a b (Bottom room) same covers = tt
-shown-covers (Bottom r) (Bottom s) (Reached slots locks) same covers = covers
-shown-covers (Bottom r) (Reached xs m) (Reached slots locks) same covers = absurd (true≢false (ap is_some same))
-shown-covers (Reached xs m) (Bottom r) (Reached slots locks) same covers = absurd covers
-shown-covers (Reached xs m) (Reached ys n) (Reached slots locks) same covers =
-    let is : State (Reached ys n) ≡ State (Reached xs m) = cc same in
-    let state : Reached ys n ≡ Reached xs m = cc is in
-    subst (λ (s : StateValue). CoversState s (Reached slots locks)) state covers
-
--- the unknown rose exactly where it didn't bound what it got
-pub Rose-raised : (marks : List ℤ) (old new : TableValue) (u : Unknown) (slots : List Slot) (a c : StateValue) → ChangesAt old new u a (raised_by marks a c) → HasShape slots a → HasShape slots c
-    → Rose old new u ↔ (CoversState a c → ⊥)
-Rose-raised marks old new u slots a c changes a_shaped c_shaped = (
-  λ rose covers. rose (ap shown changes.after ∙ ap (λ (s : StateValue). shown (Some (State s))) (raised_by-covered marks a c (room_of-shaped slots a a_shaped ∙ sym (room_of-shaped slots c c_shaped)) covers) ∙ sym (ap shown changes.before)),
-  λ fails same. fails (shown-covers a (raised_by marks a c) c (sym (ap shown changes.after) ∙ same ∙ ap shown changes.before) (CoversState-raised marks slots a c a_shaped c_shaped)),
-)
-
--- either readers see a rise, or nothing has changed
-pub rose_or_same : (marks : List ℤ) (old new : TableValue) (u : Unknown) (slots : List Slot) (a c : StateValue) → ChangesAt old new u a (raised_by marks a c) → HasShape slots a → HasShape slots c
-    → Rose old new u ⊎ ((r : Unknown) → value_at new r ≡ value_at old r)
-rose_or_same marks old new u slots a c changes a_shaped c_shaped = elim (cases_CoversState a c) [
-  | inl covers ↦
-      (let same : raised_by marks a c ≡ a = raised_by-covered marks a c (room_of-shaped slots a a_shaped ∙ sym (room_of-shaped slots c c_shaped)) covers in
-      inr (λ r. elim (cases_unknown r u) [
-        | inl is ↦ subst (λ (q : Unknown). value_at new q ≡ value_at old q) (sym is) (changes.after ∙ ap (λ (s : StateValue). Some (State s)) same ∙ sym changes.before)
-        | inr other ↦ changes.others r other
-      ]))
-  | inr fails ↦ inl ((Rose-raised marks old new u slots a c changes a_shaped c_shaped).1 fails)
+one_same : (p : Program) (t : TableValue) (e : Effect) → IsShaped p t → CanRaise p t e → (r : Unknown) → (e.target ≡ r → BoundsAt t e.target e.value) → ShowsSame t (raised_in p t e.target e.value) r
+one_same p t e shaped can r bounded = elim (cases_unknown r e.target) [
+  | inl is ↦ subst (λ (q : Unknown). ShowsSame t (raised_in p t e.target e.value) q) (sym is) (same_itself p t e.target e.value shaped can.fits (value_at t e.target) refl (bounded (sym is)))
+  | inr other ↦ other_same p t e.target r e.value other (value_at t e.target) refl (value_at t r) refl
 ]
 
-module _ (old new : TableValue) (u : Unknown) (a b : StateValue) (changes : ChangesAt old new u a b) where
-  -- a turn brings no node
-  pub none_brought : (q : Unknown) → IsBrought old new q → ⊥
-  none_brought (Point f key zero) brought = brought
-  none_brought (Point f key (suc node)) (none, some) =
-      some_from (value_at old (Point f key (suc node))) (IsThere-before old new u a b changes (Point f key (suc node)) (there_from (value_at new (Point f key (suc node))) some)) none
-  none_brought (Global g) brought = brought
+pub ShowsSame-bounded : (p : Program) (t : TableValue) (es : List Effect) → IsShaped p t → All (CanRaise p t) es → (r : Unknown)
+    → ((e : Effect) → Contains es e → e.target ≡ r → BoundsAt t e.target e.value) → ShowsSame t (raised_in_each p t es) r
+ShowsSame-bounded p t [] shaped can r bounded = refl
+ShowsSame-bounded p t (e ∷ es) shaped can r bounded =
+    let mid = raised_in p t e.target e.value in
+    let first = Raises-one p t e shaped (All-head (CanRaise p t) e es can) in
+    ShowsSame-bounded p mid es (first.grows.shaped shaped) (All-CanRaise_grown p t mid es first.grows (All-tail (CanRaise p t) e es can)) r
+    (λ x one is. first.grows.bounds x.target x.value (bounded x (Contains-tail e x es one) is))
+    ∙ one_same p t e shaped (All-head (CanRaise p t) e es can) r (bounded e (Contains-head e es))
 
-  -- no other unknown rises
-  pub Rose-only : (r : Unknown) → Rose old new r → r ≡ u
-  Rose-only r rose = elim (cases_unknown r u) [
-    | inl is ↦ is
-    | inr other ↦ absurd (rose (ap shown (changes.others r other)))
+-- ---- an unknown rises, or shows the same
+cases_unbounded : (t : TableValue) (es : List Effect) (r : Unknown) → IsUnbounded t es r ⊎ ((e : Effect) → Contains es e → e.target ≡ r → BoundsAt t e.target e.value)
+cases_unbounded t [] r = inr (λ e one is. absurd (Contains-nil e one))
+cases_unbounded t (e ∷ es) r = elim (cases_unbounded t es r) [
+  | inl later ↦ inl (later.0, Contains-tail e later.0 es later.1, later.2, later.3)
+  | inr rest ↦ elim (cases_unknown e.target r) [
+    | inl is ↦ elim (cases_CoversValue (value_at t e.target) e.value) [
+      | inl covers ↦ inr (λ x one same. elim (Contains-cases e x es one) [
+        | inl here ↦ subst (λ (y : Effect). BoundsAt t y.target y.value) (sym here) covers
+        | inr later ↦ rest x later same
+      ])
+      | inr fails ↦ inl (e, Contains-head e es, is, fails)
+    ]
+    | inr other ↦ inr (λ x one same. elim (Contains-cases e x es one) [
+      | inl here ↦ absurd (other (ap (λ (y : Effect). y.target) (sym here) ∙ same))
+      | inr later ↦ rest x later same
+    ])
   ]
+]
 
--- what is dirty after a turn of u: what waited but u, and where u rose those who read it
-module _ (p : Program) (old : Solving) (new : TableValue) (u : Unknown) (a b : StateValue) (changes : ChangesAt old.table new u a b) where
-  pub IsDirtyAfter-rise : Rose old.table new u → (q : Unknown) → IsDirtyAfter p old u new q ↔ (((Contains old.dirty q) × (q ≢ u)) ⊎ ((value_at old.table q ≢ None) × Contains (read_by p old.table q) u))
-  IsDirtyAfter-rise rose q = (
-    λ dirty. elim dirty [
-      | inl waited ↦ inl waited
-      | inr arose ↦ elim arose [
-        | inl brought ↦ absurd (none_brought old.table new u a b changes q brought)
-        | inr risen ↦ inr (risen.0, subst (λ (r : Unknown). Contains (read_by p old.table q) r) (Rose-only old.table new u a b changes risen.1.0 risen.1.2) risen.1.1)
-      ]
-    ],
-    λ dirty. elim dirty [
-      | inl waited ↦ inl waited
-      | inr reads ↦ inr (inr (reads.0, (u, reads.1, rose)))
-    ],
-  )
+pub rose_or_same : (p : Program) (t : TableValue) (es : List Effect) → IsShaped p t → All (CanRaise p t) es → (r : Unknown) → IsUnbounded t es r ⊎ ShowsSame t (raised_in_each p t es) r
+rose_or_same p t es shaped can r = elim (cases_unbounded t es r) [
+  | inl unbounded ↦ inl unbounded
+  | inr bounded ↦ inr (ShowsSame-bounded p t es shaped can r bounded)
+]
 
-  pub IsDirtyAfter-rest : (Rose old.table new u → ⊥) → (q : Unknown) → IsDirtyAfter p old u new q ↔ ((Contains old.dirty q) × (q ≢ u))
-  IsDirtyAfter-rest rest q = (
-    λ dirty. elim dirty [
-      | inl waited ↦ waited
-      | inr arose ↦ elim arose [
-        | inl brought ↦ absurd (none_brought old.table new u a b changes q brought)
-        | inr risen ↦ absurd (rest (subst (λ (r : Unknown). Rose old.table new r) (Rose-only old.table new u a b changes risen.1.0 risen.1.2) risen.1.2))
-      ]
-    ],
-    λ waited. inl waited,
-  )
+-- exactly the targets that don't bound their raises rise
+pub Rose-exactly : (p : Program) (t : TableValue) (es : List Effect) → IsShaped p t → All (CanRaise p t) es → (r : Unknown) → IsUnbounded t es r ↔ Rose t (raised_in_each p t es) r
+Rose-exactly p t es shaped can r = (
+  λ unbounded. Rose-unbounded p t es shaped can r unbounded,
+  λ rose. elim (rose_or_same p t es shaped can r) [ inl unbounded ↦ unbounded | inr same ↦ absurd (rose same) ],
+)

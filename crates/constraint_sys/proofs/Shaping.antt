@@ -1,13 +1,10 @@
 -- States that keep the shape of a function's slots.
-use Rattle.std.proofs.Common.{◌≡◌, ℕ, zero, suc, ℤ, List, [], ◌∷◌, ◌++◌, Option, None, Some, refl, ap, arith}
+use Rattle.std.proofs.Common.{◌≡◌, ℕ, zero, suc, ℤ, List, [], ◌∷◌, ◌++◌, Option, None, Some, refl, sym, ap, arith, true, true≢false}
 use Rattle.std.specs.Prelude.{length, slice_set, if◌then◌else◌}
 use Rattle.std.specs.List.{flat_map}
 use Rattle.std.proofs.lemmas.List.Elements.{Contains-append_left, Contains-append_right}
 use Rattle.gob_tree.specs.Widths.{lowest, greatest}
 use Rattle.gob_tree.specs.declared.expr.Width.TheVariants.{W32 as Int, W64 as Long}
-use Rattle.gob_tree.specs.declared.graph.Action.{Action}
-use Rattle.gob_tree.specs.declared.graph.Action.TheVariants.{Assign, Read, Write, Nondet, Guard, Assert, Lock, Unlock, Create, Join, Call, Skip}
-use Rattle.gob_tree.specs.declared.graph.Edge.{Edge}
 use Rattle.gob_tree.specs.declared.graph.Program.{Program}
 use Rattle.gob_tree.specs.declared.unit.Slot.{Slot}
 use Rattle.interval_dom.specs.Bounds.{Bounds, Covers, hull}
@@ -15,22 +12,20 @@ use Rattle.interval_dom.specs.Marks.{widened}
 use Rattle.interval_dom.specs.Ranges.{full}
 use Rattle.interval_dom.specs.declared.width.Width.{Width}
 use Rattle.interval_dom.specs.declared.width.Width.TheVariants.{W32, W64}
-use Rattle.interval_dom.proofs.Within.{HasEnds, Covers-wide, fitted-within, hull-within, widened-within, widened-bounds}
-use Rattle.lockset_dom.proofs.Membership.{Holds-shared_members}
+use Rattle.interval_dom.proofs.Within.{HasEnds, Covers-wide, hull-within, widened-within, widened-bounds}
+use Rattle.lockset_dom.specs.Members.{no_locks}
+use Rattle.lockset_dom.proofs.Membership.{Holds-no_locks, Holds-shared_members}
 use Rattle.c_meaning.specs.Demand.{slot_width}
-use Rattle.state_dom.specs.Evaluation.{interval_of}
-use Rattle.state_dom.specs.Operators.{converted_to, interval_width_of}
-use Rattle.state_dom.specs.StateValue.{StateValue, Bottom, Reached, room_of, CoversEach, CoversState, on_each, join_of, raised_by, FitsEach, HasShape}
+use Rattle.state_dom.specs.Operators.{interval_width_of}
+use Rattle.state_dom.specs.StateValue.{StateValue, Bottom, Reached, room_of, slots_of, is_reached, locks_of, CoversEach, CoversState, on_each, join_of, raised_by, FitsEach, HasShape}
 use Rattle.state_dom.specs.ThresholdValues.{thresholds_of, neighbours, numbers_of_program, widest, has_wide, ends_of_type}
 use Rattle.state_dom.proofs.Bounding.{CoversState-refl}
 use Rattle.constraint_sys.specs.declared.unknown.Key.{Key}
 use Rattle.constraint_sys.specs.declared.unknown.Unknown.TheVariants.{Point}
 use Rattle.constraint_sys.specs.declared.value.Value.{Value}
 use Rattle.constraint_sys.specs.declared.value.Value.TheVariants.{State, Number}
-use Rattle.constraint_sys.specs.Contribution.{edges_into, outcome_of, joined, contribution_of}
-use Rattle.constraint_sys.specs.Sound.{IsShaped}
+use Rattle.constraint_sys.specs.Sound.{IsMutexSet, IsShaped}
 use Rattle.constraint_sys.specs.Table.{TableValue, value_at, slots_at, state_at, shown, shown_state}
-use Rattle.constraint_sys.specs.Transfer.{assigned, outcome_in, transfer}
 
 pub length-fitted : (slots : List Slot) (xs : List Bounds) → FitsEach slots xs → length xs ≡ length slots
 length-fitted [] [] each = refl
@@ -42,6 +37,10 @@ length-fitted (slot ∷ slots) (x ∷ xs) each = ap suc (length-fitted slots xs 
 pub room_of-shaped : (slots : List Slot) (s : StateValue) → HasShape slots s → room_of s ≡ length slots
 room_of-shaped slots (Bottom room) shaped = shaped
 room_of-shaped slots (Reached xs locks) shaped = length-fitted slots xs shaped
+
+pub room_of-reached : (slots : List Slot) (s : StateValue) → is_reached s ≡ true → FitsEach slots (slots_of s) → room_of s ≡ length slots
+room_of-reached slots (Bottom room) reached fits = absurd (true≢false (sym reached))
+room_of-reached slots (Reached xs locks) reached fits = length-fitted slots xs fits
 
 -- an interval that fits its slot may be set there
 pub FitsEach-set : (slots : List Slot) (xs : List Bounds) (i : ℕ) (v : Bounds) → FitsEach slots xs → Covers (full (interval_width_of (slot_width slots i))) v → FitsEach slots (slice_set xs i v)
@@ -107,45 +106,20 @@ CoversState-raised marks slots (Reached xs locks) (Reached ys other_locks) left 
 shown_state-shaped : (p : Program) (t : TableValue) (f : ℕ) (key : Key) (node : ℕ) (o : Option Value) → value_at t (Point f key node) ≡ o → IsShaped p t → HasShape (slots_at p f) (shown_state (length (slots_at p f)) (shown o))
 shown_state-shaped p t f key node None at shaped = refl
 shown_state-shaped p t f key node (Some (State (Bottom room))) at shaped = refl
-shown_state-shaped p t f key node (Some (State (Reached xs locks))) at shaped = (shaped (Point f key node) (State (Reached xs locks)) at).1
+shown_state-shaped p t f key node (Some (State (Reached xs locks))) at shaped = (shaped (Point f key node) (State (Reached xs locks)) at).shape
 shown_state-shaped p t f key node (Some (Number n)) at shaped = absurd (shaped (Point f key node) (Number n) at)
 
 pub HasShape-state_at : (p : Program) (t : TableValue) (f : ℕ) (key : Key) (node : ℕ) → IsShaped p t → HasShape (slots_at p f) (state_at p t f key node)
 HasShape-state_at p t f key node shaped = shown_state-shaped p t f key node (value_at t (Point f key node)) refl shaped
 
-assigned-shaped : (slots : List Slot) (state : List Bounds) (locks x : ℕ) (v : Option Bounds) → FitsEach slots state → HasShape slots (assigned slots state locks x v)
-assigned-shaped slots state locks x None fits = length-fitted slots state fits
-assigned-shaped slots state locks x (Some v) fits =
-    let w = slot_width slots x in
-    FitsEach-set slots state x (converted_to w v) fits (fitted-within (interval_width_of w) v)
+pub no_mutex : (p : Program) → IsMutexSet p no_locks
+no_mutex p m held = absurd (Holds-no_locks m held)
 
-outcome_in-shaped : (slots : List Slot) (state : List Bounds) (locks : ℕ) (act : Action) → FitsEach slots state → HasShape slots (outcome_in slots state locks act).value
-outcome_in-shaped slots state locks (Assign x e) fits = assigned-shaped slots state locks x (interval_of slots state e) fits
-outcome_in-shaped slots state locks (Read x g) fits = length-fitted slots state fits
-outcome_in-shaped slots state locks (Write g e) fits = length-fitted slots state fits
-outcome_in-shaped slots state locks (Nondet x) fits =
-    let w = interval_width_of (slot_width slots x) in
-    assigned-shaped slots state locks x (Some (full w)) fits
-outcome_in-shaped slots state locks (Guard e wanted) fits = length-fitted slots state fits
-outcome_in-shaped slots state locks (Assert e) fits = length-fitted slots state fits
-outcome_in-shaped slots state locks (Lock m) fits = length-fitted slots state fits
-outcome_in-shaped slots state locks (Unlock m) fits = length-fitted slots state fits
-outcome_in-shaped slots state locks (Create t f) fits = length-fitted slots state fits
-outcome_in-shaped slots state locks (Join t) fits = length-fitted slots state fits
-outcome_in-shaped slots state locks (Call d f args) fits = length-fitted slots state fits
-outcome_in-shaped slots state locks Skip fits = fits
+shown_state-mutexes : (p : Program) (t : TableValue) (f : ℕ) (key : Key) (node : ℕ) (o : Option Value) → value_at t (Point f key node) ≡ o → IsShaped p t → IsMutexSet p (locks_of (shown_state (length (slots_at p f)) (shown o)))
+shown_state-mutexes p t f key node None at shaped = no_mutex p
+shown_state-mutexes p t f key node (Some (State (Bottom room))) at shaped = no_mutex p
+shown_state-mutexes p t f key node (Some (State (Reached xs locks))) at shaped = (shaped (Point f key node) (State (Reached xs locks)) at).mutexes
+shown_state-mutexes p t f key node (Some (Number n)) at shaped = absurd (shaped (Point f key node) (Number n) at)
 
-pub transfer-shaped : (p : Program) (t : TableValue) (f : ℕ) (key : Key) (act : Action) (s : StateValue) → HasShape (slots_at p f) s → HasShape (slots_at p f) (transfer p t f key act s).value
-transfer-shaped p t f key act (Bottom room) shaped = shaped
-transfer-shaped p t f key act (Reached state locks) shaped = outcome_in-shaped (slots_at p f) state locks act shaped
-
-pub joined-shaped : (p : Program) (t : TableValue) (f : ℕ) (key : Key) (es : List Edge) → IsShaped p t → HasShape (slots_at p f) (joined p t f key es)
-joined-shaped p t f key [] shaped = refl
-joined-shaped p t f key (e ∷ es) shaped =
-    HasShape-join (slots_at p f) (outcome_of p t f key e).value (joined p t f key es)
-    (transfer-shaped p t f key e.act (state_at p t f key e.from) (HasShape-state_at p t f key e.from shaped))
-    (joined-shaped p t f key es shaped)
-
--- what a point gets has the shape of its function
-pub contribution-shaped : (p : Program) (t : TableValue) (f : ℕ) (key : Key) (node : ℕ) → IsShaped p t → HasShape (slots_at p f) (contribution_of p t f key node).value
-contribution-shaped p t f key node shaped = joined-shaped p t f key (edges_into p f node) shaped
+pub IsMutexSet-state_at : (p : Program) (t : TableValue) (f : ℕ) (key : Key) (node : ℕ) → IsShaped p t → IsMutexSet p (locks_of (state_at p t f key node))
+IsMutexSet-state_at p t f key node shaped = shown_state-mutexes p t f key node (value_at t (Point f key node)) refl shaped

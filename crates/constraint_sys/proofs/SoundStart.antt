@@ -1,9 +1,9 @@
 -- The initial table is sound.
-use Rattle.std.proofs.Common.{◌≡◌, ◌≢◌, true, ℕ, zero, suc, ◌+◌, ◌-◌, ◌<◌, ◌≤◌, ℤ, pos, ◌≤ℤ◌, List, [], ◌∷◌, ◌++◌, Option, None, Some, refl, sym, ap, ◌∙◌, arith, subst, inl, inr, is_some, true≢false}
-use Rattle.std.specs.Prelude.{All, Contains, IsSomeAnd, IsTrue, length, map, replicate, slice_get, int_le}
-use Rattle.std.proofs.lemmas.Bool.{and_parts, cases_eq}
+use Rattle.std.proofs.Common.{◌≡◌, ◌≢◌, true, ℕ, zero, suc, ◌+◌, ◌-◌, ◌<◌, ◌≤◌, ℤ, ◌≤ℤ◌, List, [], ◌∷◌, ◌++◌, Option, None, Some, refl, sym, ap, ◌∙◌, arith, subst, inl, inr, is_some, true≢false}
+use Rattle.std.specs.Prelude.{Contains, IsSomeAnd, IsTrue, length, slice_get, int_le}
+use Rattle.std.proofs.lemmas.Bool.{and_parts}
 use Rattle.std.proofs.lemmas.Int.{ints}
-use Rattle.std.proofs.lemmas.List.Elements.{All-nil, All-cons, All-contains, All-get_or, Contains-append_right}
+use Rattle.std.proofs.lemmas.List.Elements.{All-contains, All-get_or}
 use Rattle.std.proofs.lemmas.Option.{get_or_from_slice_get, slice_get_within, slice_get_cases}
 use Rattle.gob_tree.specs.Formed.{IsFormed, IsFormedFunction}
 use Rattle.gob_tree.specs.Widths.{fits, lowest, greatest}
@@ -12,12 +12,11 @@ use Rattle.gob_tree.specs.declared.expr.Width.TheVariants.{W32, W64}
 use Rattle.gob_tree.specs.declared.graph.FuncGraph.{FuncGraph}
 use Rattle.gob_tree.specs.declared.graph.Program.{Program}
 use Rattle.gob_tree.specs.declared.unit.GlobalDecl.{GlobalDecl}
-use Rattle.gob_tree.specs.declared.unit.Slot.{Slot}
 use Rattle.interval_dom.specs.Bounds.{between, Covers}
 use Rattle.interval_dom.specs.Ranges.{full}
 use Rattle.interval_dom.proofs.Within.{Covers-refl}
 use Rattle.state_dom.specs.Operators.{interval_width_of}
-use Rattle.state_dom.specs.StateValue.{Bottom, start_of, FitsEach}
+use Rattle.state_dom.specs.StateValue.{Bottom, start_of}
 use Rattle.state_dom.proofs.Bounding.{CoversState-refl}
 use Rattle.constraint_sys.specs.declared.unknown.Key.{Key}
 use Rattle.constraint_sys.specs.declared.unknown.Unknown.{Unknown}
@@ -25,40 +24,14 @@ use Rattle.constraint_sys.specs.declared.unknown.Unknown.TheVariants.{Point, Glo
 use Rattle.constraint_sys.specs.declared.value.Value.{Value}
 use Rattle.constraint_sys.specs.declared.value.Value.TheVariants.{State}
 use Rattle.constraint_sys.specs.PostSolution.{CoversValue, HasRoots, main_start_value, initial_value}
-use Rattle.constraint_sys.specs.Sound.{IsShaped, IsShapedEntry, CanTurn, IsSound}
+use Rattle.constraint_sys.specs.Sound.{IsKeyOf, IsShaped, IsShapedEntry, CanTurn, IsSound}
 use Rattle.constraint_sys.specs.Table.{TableValue, value_at, IsThere, main_start, empty_key, slots_at, nodes_at, nodes_of_function}
-use Rattle.constraint_sys.specs.Turn.{numbers_from, bottom_nodes, initial_globals, initial_table, initial_dirty, initial_of}
+use Rattle.constraint_sys.specs.Turn.{bottom_nodes, initial_globals, initial_table, initial_dirty, initial_of}
+use Rattle.constraint_sys.proofs.Fitting.{IsKeyOf-empty, function_with}
+use Rattle.constraint_sys.proofs.Numbered.{AllEntries-numbers, All-numbers, Contains-numbers, IsThere-numbers}
+use Rattle.constraint_sys.proofs.Shaping.{no_mutex}
+use Rattle.constraint_sys.proofs.Zeros.{start_fits}
 use Rattle.constraint_sys.proofs.Entries.{global_apart, AllEntries, AllEntries-append, value_at-all, value_at-head, value_at-past, IsThere-cons, IsThere-append_left, there_value}
-
--- what holds of each number from the first on holds of all entries, or of all unknowns
-AllEntries-numbers : (P : Unknown → Value → Type 0) (entry : ℕ → Unknown × Value) (first count : ℕ) → ((i : ℕ) → first ≤ i → i < first + count → P (entry i).0 (entry i).1) → AllEntries P (map entry (numbers_from first count))
-AllEntries-numbers P entry first zero each = tt
-AllEntries-numbers P entry first (suc count) each =
-    (each first (omega arith) (omega arith), AllEntries-numbers P entry (first + 1) count (λ i low high. each i (omega arith) (omega arith)))
-
-All-numbers : (P : Unknown → Type 0) (unknown : ℕ → Unknown) (first count : ℕ) → ((i : ℕ) → first ≤ i → i < first + count → P (unknown i)) → All P (map unknown (numbers_from first count))
-All-numbers P unknown first zero each = All-nil P
-All-numbers P unknown first (suc count) each =
-    All-cons P (unknown first) (map unknown (numbers_from (first + 1) count)) (each first (omega arith) (omega arith)) (All-numbers P unknown (first + 1) count (λ i low high. each i (omega arith) (omega arith)))
-
--- each number from the first on has its entry, or its unknown
-IsThere-numbers : (f : ℕ) (key : Key) (v : Value) (first count i : ℕ) → first ≤ i → i < first + count → IsThere (map (λ (node : ℕ). (Point f key node, v)) (numbers_from first count)) (Point f key i)
-IsThere-numbers f key v first zero i low high = absurd (omega arith)
-IsThere-numbers f key v first (suc count) i low high =
-    let rest : TableValue = map (λ (node : ℕ). (Point f key node, v)) (numbers_from (first + 1) count) in
-    elim (cases_eq i first) [
-      | inl same ↦ subst (λ (n : ℕ). IsThere ((Point f key n, v) ∷ rest) (Point f key i)) same (ap is_some (value_at-head (Point f key i) v rest))
-      | inr other ↦ IsThere-cons (Point f key i) (Point f key first, v) rest (IsThere-numbers f key v (first + 1) count i (omega arith) (omega arith))
-    ]
-
-Contains-numbers : (unknown : ℕ → Unknown) (first count i : ℕ) → first ≤ i → i < first + count → Contains (map unknown (numbers_from first count)) (unknown i)
-Contains-numbers unknown first zero i low high = absurd (omega arith)
-Contains-numbers unknown first (suc count) i low high =
-    let rest : List Unknown = map unknown (numbers_from (first + 1) count) in
-    elim (cases_eq i first) [
-      | inl same ↦ subst (λ (n : ℕ). Contains (unknown n ∷ rest) (unknown i)) same (0, omega arith, refl)
-      | inr other ↦ Contains-append_right (unknown first ∷ []) rest (unknown i) (Contains-numbers unknown (first + 1) count i (omega arith) (omega arith))
-    ]
 
 -- the globals, by the number of the first
 AllEntries-globals : (P : Unknown → Value → Type 0) (g : ℕ) (decls : List GlobalDecl) → ((k : ℕ) (decl : GlobalDecl) → slice_get decls k ≡ Some decl → P (Global (g + k)) (initial_value decl)) → AllEntries P (initial_globals g decls)
@@ -84,15 +57,6 @@ value_at-global g (first ∷ rest) (suc k) decl at =
     ∙ ap (λ (n : ℕ). value_at (initial_globals (g + 1) rest) (Global n)) number
     ∙ value_at-global (g + 1) rest k decl at
 
--- each slot [0,0] fits
-zero_fits : (w : Width) → Covers (full (interval_width_of w)) (between (pos 0) (pos 0))
-zero_fits W32 = (omega (arith, ints), omega (arith, ints))
-zero_fits W64 = (omega (arith, ints), omega (arith, ints))
-
-start_fits : (slots : List Slot) → FitsEach slots (replicate (length slots) (between (pos 0) (pos 0)))
-start_fits [] = tt
-start_fits (slot ∷ slots) = (zero_fits slot.width, start_fits slots)
-
 -- an initial value fits its global
 test_means : (x y : ℤ) → int_le x y ≡ true → x ≤ℤ y
 test_means x y h = grind (arith, ints)
@@ -105,7 +69,7 @@ number_fits W64 n passes =
     let parts = and_parts (int_le (lowest W64) n) (int_le n (greatest W64)) passes in
     (test_means (lowest W64) n parts.0, test_means n (greatest W64) parts.1)
 
-initial_fits : (p : Program) → IsFormed p → (g : ℕ) (decl : GlobalDecl) → slice_get p.globals g ≡ Some decl → IsShapedEntry p (Global g) (initial_value decl)
+pub initial_fits : (p : Program) → IsFormed p → (g : ℕ) (decl : GlobalDecl) → slice_get p.globals g ≡ Some decl → IsShapedEntry p (Global g) (initial_value decl)
 initial_fits p formed g decl at =
     let fits_it = All-get_or (λ (d : GlobalDecl). IsTrue (fits d.width d.initial)) p.globals g decl (slice_get_within p.globals g decl at) formed.initials_fit in
     let here = get_or_from_slice_get p.globals g decl decl at in
@@ -191,10 +155,16 @@ module _ (p : Program) (formed : IsFormed p) where
         subst (λ (g : ℕ). IsThere (initial_table p) (Point g key other)) (sym is.0) (subst (λ (k : Key). IsThere (initial_table p) (Point p.main k other)) (sym is.1) (node_there other inside)));
   }
 
+  main_key : IsKeyOf p p.main empty_key
+  main_key = let found = function_with p _ formed p.main (slice_get p.funcs p.main) refl formed.main_there in IsKeyOf-empty p p.main found.0 found.1 found.2.1
+
   shaped : IsShaped p (initial_table p)
   shaped u v at =
       value_at-all (IsShapedEntry p) (initial_table p)
-      (AllEntries-initial (IsShapedEntry p) (omega (arith, main_has_nodes p formed), start_fits (slots_at p p.main)) (λ i low high. (high, refl)) (λ g decl at. initial_fits p formed g decl at))
+      (AllEntries-initial (IsShapedEntry p)
+      (record { within = omega (arith, main_has_nodes p formed); context = main_key; shape = start_fits (slots_at p p.main); mutexes = no_mutex p })
+      (λ i low high. record { within = high; context = main_key; shape = refl; mutexes = no_mutex p })
+      (λ g decl at. initial_fits p formed g decl at))
       u v at
 
   can_turn : (t : TableValue) (f : ℕ) (key : Key) (i : ℕ) → 0 < i → IsThere t (Point f key i) → CanTurn t (Point f key i)

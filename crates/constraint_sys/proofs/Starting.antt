@@ -1,6 +1,9 @@
 -- The entries and points of an initial table, one by one.
-use Rattle.std.proofs.Common.{◌≡◌, ℕ, false, zero, suc, ◌+◌, ◌-◌, ◌≤◌, List, [], ◌∷◌, ◌++◌, map, sym, ap, ◌∙◌, arith}
-use Rattle.std.specs.Ordering.{is_lt, nat_cmp}
+use Rattle.std.proofs.Common.{◌≡◌, ℕ, zero, suc, ◌+◌, ◌-◌, ◌<◌, ◌≤◌, List, [], ◌∷◌, ◌++◌, map, sym, ap, ◌∙◌, arith}
+use Rattle.std.specs.Ordering.{nat_cmp}
+use Rattle.std.specs.List.{AllByRecursion}
+use Rattle.std.specs.List.Sorted.{IsStrictlySortedBy}
+use Rattle.std.specs.declared.cmp.Ordering.TheVariants.{Less}
 use Rattle.std.proofs.lemmas.Bool.Decides.{nat_tests}
 use Rattle.std.proofs.lemmas.Cmp.{nat_cmp_total, tied_itself}
 use Rattle.std.proofs.lemmas.List.{map-append}
@@ -39,12 +42,24 @@ nodes_after_start-next f key n positive =
     let point : ℕ → Unknown = λ node. Point f key node in
     ap (map point) (numbers_from-next n positive) ∙ map-append point (numbers_from 1 (n - 1)) (n ∷ [])
 
-nat_cmp-above : (a b : ℕ) → a ≤ b → is_lt (nat_cmp b a) ≡ false
-nat_cmp-above a b below = grind (arith, nat_tests)
+nat_cmp-less : (a b : ℕ) → a < b → nat_cmp a b ≡ Less
+nat_cmp-less a b below = grind (arith, nat_tests)
 
--- of two nodes of a function in a context the one with the greater number isn't less
-pub Point-above : (f : ℕ) (key : Key) (a b : ℕ) → a ≤ b → is_lt (unknown_cmp (Point f key b) (Point f key a)) ≡ false
-Point-above f key a b below = rw (tied_itself nat_cmp_total f, tied_itself total-law key) (nat_cmp-above a b below)
+-- of two nodes of a function in a context the one with the lesser number is less
+pub Point-less : (f : ℕ) (key : Key) (a b : ℕ) → a < b → unknown_cmp (Point f key a) (Point f key b) ≡ Less
+Point-less f key a b below = rw (tied_itself nat_cmp_total f, tied_itself total-law key) (nat_cmp-less a b below)
+
+nodes_above : (f : ℕ) (key : Key) (m first count : ℕ) → m < first → AllByRecursion (λ y. unknown_cmp (Point f key m) y ≡ Less) (map (λ (node : ℕ). Point f key node) (numbers_from first count))
+nodes_above f key m first zero below = tt
+nodes_above f key m first (suc count) below = (Point-less f key m first below, nodes_above f key m (first + 1) count (omega arith))
+
+nodes_ascend : (f : ℕ) (key : Key) (first count : ℕ) → IsStrictlySortedBy unknown_cmp (map (λ (node : ℕ). Point f key node) (numbers_from first count))
+unfolding IsStrictlySortedBy
+nodes_ascend f key first zero = tt
+nodes_ascend f key first (suc count) = (nodes_above f key first (first + 1) count (omega arith), nodes_ascend f key (first + 1) count)
+
+pub nodes_after_start-ascend : (f : ℕ) (key : Key) (nodes : ℕ) → IsStrictlySortedBy unknown_cmp (nodes_after_start f key nodes)
+nodes_after_start-ascend f key nodes = nodes_ascend f key 1 (nodes - 1)
 
 pub Point-node : (f : ℕ) (key : Key) (a b : ℕ) → Point f key a ≡ Point f key b → a ≡ b
 Point-node f key a b same = cc same

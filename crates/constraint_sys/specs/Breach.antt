@@ -3,7 +3,6 @@ use Rattle.std.specs.Prelude.{◌≡◌, ◌⊎◌, ℕ, zero, suc, ◌<◌, Lis
 use Rattle.std.specs.Ordering.{is_lt}
 use Rattle.gob_tree.specs.declared.graph.Program.{Program}
 use Rattle.gob_tree.specs.declared.unit.GlobalDecl.{GlobalDecl}
-use Rattle.constraint_sys.specs.declared.unknown.Key.{Key}
 use Rattle.constraint_sys.specs.declared.unknown.Unknown.{Unknown}
 use Rattle.constraint_sys.specs.declared.unknown.Unknown.TheVariants.{Point, Global}
 use Rattle.constraint_sys.specs.declared.value.Effect.{Effect}

@@ -1,5 +1,5 @@
 -- What a point gets from the edges that end there.
-use Rattle.std.specs.Prelude.{◌≢◌, None, Contains, ℕ, zero, suc, Bool, ◌&&◌, List, [], ◌∷◌, filter, is_some, length, map, nat_eq}
+use Rattle.std.specs.Prelude.{◌≢◌, None, Contains, ℕ, zero, suc, List, [], ◌∷◌, filter, length, nat_eq}
 use Rattle.std.specs.List.{flat_map}
 use Rattle.gob_tree.specs.declared.graph.Edge.{Edge}
 use Rattle.gob_tree.specs.declared.graph.Program.{Program}
@@ -9,8 +9,9 @@ use Rattle.constraint_sys.specs.declared.unknown.Unknown.{Unknown}
 use Rattle.constraint_sys.specs.declared.unknown.Unknown.TheVariants.{Point, Global}
 use Rattle.constraint_sys.specs.declared.value.Contribution.{Contribution}
 use Rattle.constraint_sys.specs.declared.value.Effect.{Effect}
+use Rattle.constraint_sys.specs.declared.value.Outcome.{Outcome}
 use Rattle.constraint_sys.specs.Table.{TableValue, value_at, edges_at, slots_at, state_at}
-use Rattle.constraint_sys.specs.Transfer.{Outcome, transfer}
+use Rattle.constraint_sys.specs.Transfer.{transfer}
 
 -- the edges of function f that end in a node, in order
 abbrev pub edges_into : Program → ℕ → ℕ → List Edge
@@ -18,12 +19,16 @@ edges_into p f node = filter (λ (e : Edge). nat_eq e.to node) (edges_at p f)
 
 -- what one edge gives in a context, from the state at its start
 abbrev pub outcome_of : Program → TableValue → ℕ → Key → Edge → Outcome
-outcome_of p t f key e = transfer p t f key e.act (state_at p t f key e.from)
+outcome_of p t f key e = transfer p t f e.act (state_at p t f key e.from)
 
--- the join of the states that edges give, from the last edge on; Bottom where there are none
+-- a state joined with those that edges give, in order
+abbrev pub joined_from : Program → TableValue → ℕ → Key → StateValue → List Edge → StateValue
+joined_from p t f key s [] = s
+joined_from p t f key s (e ∷ es) = joined_from p t f key (join_of s (outcome_of p t f key e).value) es
+
+-- the join of the states that edges give; Bottom where there are none
 abbrev pub joined : Program → TableValue → ℕ → Key → List Edge → StateValue
-joined p t f key [] = Bottom (length (slots_at p f))
-joined p t f key (e ∷ es) = join_of (outcome_of p t f key e).value (joined p t f key es)
+joined p t f key es = joined_from p t f key (Bottom (length (slots_at p f))) es
 
 abbrev pub effects_of : Program → TableValue → ℕ → Key → List Edge → List Effect
 effects_of p t f key es = flat_map (λ (e : Edge). (outcome_of p t f key e).effects) es
@@ -48,13 +53,6 @@ read_by p t (Global g) = []
 abbrev pub contribution_at : Program → TableValue → Unknown → Contribution
 contribution_at p t (Point f key node) = contribution_of p t f key node
 contribution_at p t (Global g) = record { value = Bottom 0; effects = []; reads = [] }
-
-abbrev pub reads_from : TableValue → ℕ → Key → ℕ → Edge → Bool
-reads_from t f key node e = nat_eq e.from node && is_some (value_at t (Point f key e.to))
-
--- the points of the table that the edges from a node lead to
-abbrev pub readers_of : Program → TableValue → ℕ → Key → ℕ → List Unknown
-readers_of p t f key node = map (λ (e : Edge). Point f key e.to) (filter (reads_from t f key node) (edges_at p f))
 
 -- q is a point of the table whose right side reads u
 abbrev pub Reads : Program → TableValue → Unknown → Unknown → Type 0

@@ -1,6 +1,9 @@
+pub mod Arising
 pub mod Breach
 pub mod Contribution
+pub mod Index
 pub mod PostSolution
+pub mod Reading
 pub mod Sound
 pub mod Table
 pub mod Transfer

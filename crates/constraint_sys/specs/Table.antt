@@ -66,12 +66,19 @@ abbrev pub edges_of_function : Option FuncGraph → List Edge
 edges_of_function None = []
 edges_of_function (Some f) = f.edges
 
+abbrev pub params_of_function : Option FuncGraph → ℕ
+params_of_function None = 0
+params_of_function (Some f) = f.params
+
 abbrev pub nodes_of_function : Option FuncGraph → List Place
 nodes_of_function None = []
 nodes_of_function (Some f) = f.nodes
 
 abbrev pub slots_at : Program → ℕ → List Slot
 slots_at p f = slots_of_function (slice_get p.funcs f)
+
+abbrev pub params_at : Program → ℕ → ℕ
+params_at p f = params_of_function (slice_get p.funcs f)
 
 abbrev pub edges_at : Program → ℕ → List Edge
 edges_at p f = edges_of_function (slice_get p.funcs f)

@@ -1,5 +1,6 @@
 -- Raising an unknown, turns, and the replay of recorded turns.
-use Rattle.std.specs.Prelude.{◌≡◌, ◌≢◌, ◌⊎◌, ◌↔◌, ℕ, zero, suc, ◌+◌, ◌-◌, ℤ, List, [], ◌∷◌, ◌++◌, Option, None, Some, length, map, Contains}
+use Rattle.std.specs.Prelude.{◌≡◌, ◌≢◌, ◌⊎◌, ◌↔◌, ℕ, zero, suc, ◌+◌, ◌-◌, ℤ, List, [], ◌∷◌, ◌++◌, Option, None, Some, length, map, filter, is_none, Bool, Contains}
+use Rattle.std.specs.List.Sorted.{IsStrictlySortedBy}
 use Rattle.gob_tree.specs.declared.graph.Program.{Program}
 use Rattle.gob_tree.specs.declared.unit.GlobalDecl.{GlobalDecl}
 use Rattle.interval_dom.specs.Marks.{widened}
@@ -11,7 +12,7 @@ use Rattle.constraint_sys.specs.declared.unknown.Unknown.TheVariants.{Point, Glo
 use Rattle.constraint_sys.specs.declared.value.Effect.{Effect}
 use Rattle.constraint_sys.specs.declared.value.Value.{Value}
 use Rattle.constraint_sys.specs.declared.value.Value.TheVariants.{State, Number}
-use Rattle.constraint_sys.specs.Table.{TableValue, value_at, with_value, shown, empty_key, nodes_at, slots_at}
+use Rattle.constraint_sys.specs.Table.{TableValue, value_at, with_value, shown, empty_key, nodes_at, slots_at, unknown_cmp}
 use Rattle.constraint_sys.specs.Contribution.{contribution_of, read_by}
 use Rattle.constraint_sys.specs.PostSolution.{main_start_value, initial_value}
 
@@ -34,14 +35,22 @@ bottoms room f key nodes = map (λ (node : ℕ). (Point f key node, State (Botto
 abbrev pub bottom_nodes : Program → ℕ → Key → TableValue
 bottom_nodes p f key = bottoms (length (slots_at p f)) f key (length (nodes_at p f))
 
--- the entries that come with an unknown that wasn't there: a start brings its function's nodes
-abbrev pub arising : Program → Unknown → Value → TableValue
-arising p (Point f key zero) v = (Point f key 0, v) ∷ bottom_nodes p f key
-arising p (Point f key (suc node)) v = (Point f key (suc node), v) ∷ []
-arising p (Global g) v = (Global g, v) ∷ []
+-- the other nodes of a start's function and context, as Bottom
+abbrev pub fellows : Program → Unknown → TableValue
+fellows p (Point f key zero) = bottom_nodes p f key
+fellows p (Point f key (suc node)) = []
+fellows p (Global g) = []
+
+abbrev pub is_absent : TableValue → Unknown × Value → Bool
+is_absent t e = is_none (value_at t e.0)
+
+-- the entries that come with an unknown that wasn't there: a start brings those nodes of its function
+-- that are absent
+abbrev pub arising : Program → TableValue → Unknown → Value → TableValue
+arising p t u v = (u, v) ∷ filter (is_absent t) (fellows p u)
 
 abbrev pub raised_entry : Program → TableValue → Unknown → Value → Option Value → TableValue
-raised_entry p t u v None = t ++ arising p u v
+raised_entry p t u v None = t ++ arising p t u v
 raised_entry p t u v (Some old) = with_value t u (raised_value (thresholds_of p) old v)
 
 -- the table with an unknown raised by a value
@@ -53,12 +62,16 @@ abbrev pub raised_in_each : Program → TableValue → List Effect → TableValu
 raised_in_each p t [] = t
 raised_in_each p t (e ∷ es) = raised_in_each p (raised_in p t e.target e.value) es
 
--- the table after a turn of an unknown: it is raised by its contribution, then the effects follow
-abbrev pub table_after : Program → TableValue → Unknown → TableValue
-table_after p t (Point f key node) =
+-- what a turn of an unknown raises, in order: itself by its contribution's value, then the target of
+-- each effect
+abbrev pub raises_of : Program → TableValue → Unknown → List Effect
+raises_of p t (Point f key node) =
     let c = contribution_of p t f key node in
-    raised_in_each p (raised_in p t (Point f key node) (State c.value)) c.effects
-table_after p t (Global g) = t
+    record { target = Point f key node; value = State c.value } ∷ c.effects
+raises_of p t (Global g) = []
+
+abbrev pub table_after : Program → TableValue → Unknown → TableValue
+table_after p t u = raised_in_each p t (raises_of p t u)
 
 -- a table, and the points whose turn is still to come, in the order of unknowns
 pub record Solving : Type 0 where
@@ -84,11 +97,16 @@ abbrev pub IsDirtyAfter : Program → Solving → Unknown → TableValue → Unk
 IsDirtyAfter p old u new q =
     ((Contains old.dirty q) × (q ≢ u)) ⊎ (IsBrought old.table new q ⊎ ReadsRisen p old.table new q)
 
+-- unknowns in their order, none twice
+abbrev pub IsAscending : List Unknown → Type 0
+IsAscending us = IsStrictlySortedBy unknown_cmp us
+
 -- one turn of a dirty unknown
 pub record Turns (p : Program) (old : Solving) (u : Unknown) (new : Solving) : Type 0 where
   pub was_dirty : Contains old.dirty u
   pub table : new.table ≡ table_after p old.table u
   pub dirty : (q : Unknown) → Contains new.dirty q ↔ IsDirtyAfter p old u new.table q
+  pub ascending : IsAscending new.dirty
 
 -- the turns of a trace, in order, lead from one to the other
 abbrev pub Replays : Program → Solving → List Unknown → Solving → Type 0

@@ -1,31 +1,33 @@
 //! The points whose turn is still to come.
-ghost use Rattle.std.specs.Prelude.{◌≡◌, ◌≢◌, ◌↔◌, ◌⊎◌, ◌<◌, ◌+◌, ◌≤◌, [], IsTrue, IfOk, OnOk, OnErr, Contains, IsSorted, length, slice_get, vec_len, filter, insert, not};
-ghost use Rattle.std.specs.Option.{option_copied};
-ghost use Rattle.std.specs.Vec.{vec_capacity};
+ghost use Rattle.std.specs.Prelude.{◌≡◌, ◌≢◌, ◌↔◌, ◌⊎◌, [], IsTrue, OnOk, OnErr, Contains, slice_get};
 ghost use Rattle.constraint_sys.specs.declared.unknown.Unknown.{Unknown as TheUnknown};
-ghost use Rattle.constraint_sys.specs.Table.{unknown_cmp, unknown_eq};
+ghost use Rattle.constraint_sys.specs.Turn.{IsAscending};
 
+use crate::readers::has_unknown;
 use crate::unknown::Unknown;
 use gob_tree::Memory;
 use std::alloc::Global;
+use std::collections::BTreeSet;
 use std::marker::Model;
 
-/// A finite set of points, which contracts see as the list of its members in the order of unknowns.
-#[derive(Debug, Drop)]
+/// A finite set of points, which contracts see as the list of its members in the order of unknowns,
+/// none twice. To find the first, to take one out and to add one takes a time that grows with the
+/// logarithm of the number of members.
+#[derive(Drop)]
 pub struct Dirty {
-    points: Vec<Unknown>,
+    points: BTreeSet<Unknown>,
 }
 
 impl Model for Dirty {
-    ghost use Rattle.std.specs.Prelude.{List, IsSorted};
+    ghost use Rattle.std.specs.Prelude.{List};
     ghost use Rattle.constraint_sys.specs.declared.unknown.Unknown.{Unknown};
-    ghost use Rattle.constraint_sys.specs.Table.{unknown_cmp};
+    ghost use Rattle.constraint_sys.specs.Turn.{IsAscending};
 
     ghost Value = { List Unknown };
 
-    ghost view = { λ d. d.points.items };
+    ghost view = { λ d. d.points.keys };
 
-    ghost invariant = { λ d. IsSorted unknown_cmp d.points.items };
+    ghost invariant = { λ d. IsAscending d.points.keys };
 }
 
 impl Dirty {
@@ -34,16 +36,8 @@ impl Dirty {
         ensures { result ≡ [] }
     {
         Dirty {
-            points: Vec::new(alloc),
+            points: BTreeSet::new(alloc),
         }
-    }
-
-    /// The set of these points, which ascend.
-    pub(crate) fn of_ascending(points: Vec<Unknown>) -> Dirty
-        requires { IsSorted unknown_cmp points.items }
-        ensures { result ≡ points.items }
-    {
-        Dirty { points }
     }
 
     /// Whether there is no member.
@@ -57,76 +51,104 @@ impl Dirty {
     pub fn contains(&self, u: &Unknown) -> bool
         ensures { IsTrue result ↔ Contains self.now u.now }
     {
-        self.points.contains(u)
+        has(&self.points, u)
     }
 
     /// The first member in the order of unknowns; `None` exactly where there is none.
     pub fn first(&self) -> Option<Unknown>
         ensures value { result ≡ slice_get self.now 0 }
-        ensures ordered { IsSorted unknown_cmp self.now }
+        ensures ascending { IsAscending self.now }
     {
         self.points.first().copied()
     }
 
+    /// Adds points; `Memory` is want of memory, and leaves the set as it was.
+    pub(crate) fn add(&mut self, alloc: Global, more: &[Unknown]) -> Result<(), Memory>
+        ensures ok { (q : TheUnknown) → OnOk result (Contains self.new q ↔ (Contains self.old q ⊎ Contains more.now q)) }
+        ensures err { OnErr result (self.new ≡ self.old) }
+        ensures ascending { IsAscending self.new }
+    {
+        let mut added = Vec::new(alloc);
+        match try_add(&mut self.points, &mut added, more) {
+            Ok(()) => Ok(()),
+            Err(error) => {
+                take_back(&mut self.points, added.as_slice());
+                Err(error)
+            }
+        }
+    }
+
     /// Takes one point out and adds others; `Memory` is want of memory, and leaves the set as it
     /// was.
-    pub(crate) fn exchange(&mut self, done: &Unknown, more: &[Unknown]) -> Result<(), Memory>
+    pub(crate) fn exchange(
+        &mut self,
+        alloc: Global,
+        done: &Unknown,
+        more: &[Unknown],
+    ) -> Result<(), Memory>
         ensures ok { (q : TheUnknown) → OnOk result (Contains self.new q ↔ (((Contains self.old q) × (q ≢ done.now)) ⊎ Contains more.now q)) }
         ensures err { OnErr result (self.new ≡ self.old) }
+        ensures ascending { IsAscending self.new }
     {
-        self.points.reserve(more.len())?;
-        take_out(&mut self.points, done);
-        put_in_all(&mut self.points, more);
+        self.add(alloc, more)?;
+        if !has_unknown(more, done) {
+            take_out(&mut self.points, done);
+        }
         Ok(())
     }
 }
 
-fn take_out(points: &mut Vec<Unknown>, done: &Unknown)
-    requires { IsSorted unknown_cmp points.old.items }
-    ensures kept { points.new.items ≡ filter (λ q. not (unknown_eq q done.now)) points.old.items }
-    ensures members { (q : TheUnknown) → Contains points.new.items q ↔ ((Contains points.old.items q) × (q ≢ done.now)) }
-    ensures ordered { IsSorted unknown_cmp points.new.items }
-    ensures capacity { vec_capacity points.new ≡ vec_capacity points.old }
-    ensures len { vec_len points.new ≤ vec_len points.old }
+fn has(points: &BTreeSet<Unknown>, u: &Unknown) -> bool
+    ensures { IsTrue result ↔ Contains points.now.keys u.now }
 {
-    points.retain(|q| q != done);
+    points.contains(u)
 }
 
-fn put_in_all(points: &mut Vec<Unknown>, more: &[Unknown])
-    requires room { vec_len points.old + length more.now ≤ vec_capacity points.old }
-    requires ordered { IsSorted unknown_cmp points.old.items }
-    ensures members { (q : TheUnknown) → Contains points.new.items q ↔ (Contains points.old.items q ⊎ Contains more.now q) }
-    ensures ordered { IsSorted unknown_cmp points.new.items }
+fn put_in(points: &mut BTreeSet<Unknown>, u: Unknown) -> Result<(), Memory>
+    ensures ok { (q : TheUnknown) → OnOk result (Contains points.new.keys q ↔ (Contains points.old.keys q ⊎ (q ≡ u))) }
+    ensures err { OnErr result (points.new.keys ≡ points.old.keys) }
+    ensures ascending { IsAscending points.new.keys }
+{
+    points.insert(u)?;
+    Ok(())
+}
+
+fn take_out(points: &mut BTreeSet<Unknown>, u: &Unknown)
+    ensures members { (q : TheUnknown) → Contains points.new.keys q ↔ ((Contains points.old.keys q) × (q ≢ u.now)) }
+    ensures ascending { IsAscending points.new.keys }
+{
+    points.remove(u);
+}
+
+/// Adds points, and notes those that weren't there. `Memory` may come with some of them added.
+fn try_add(
+    points: &mut BTreeSet<Unknown>,
+    added: &mut Vec<Unknown>,
+    more: &[Unknown],
+) -> Result<(), Memory>
+    requires none { added.old.items ≡ [] }
+    requires ascending { IsAscending points.old.keys }
+    ensures ok { (q : TheUnknown) → OnOk result (Contains points.new.keys q ↔ (Contains points.old.keys q ⊎ Contains more.now q)) }
+    ensures kept { (q : TheUnknown) → Contains points.old.keys q → Contains points.new.keys q }
+    ensures noted { (q : TheUnknown) → Contains points.new.keys q → Contains points.old.keys q ⊎ Contains added.new.items q }
+    ensures absent { (q : TheUnknown) → Contains added.new.items q → Contains points.old.keys q → ⊥ }
+    ensures ascending { IsAscending points.new.keys }
 {
     for u in more {
-        put_in(points, *u);
+        if !has(points, u) {
+            added.push(*u)?;
+            put_in(points, *u)?;
+        }
     }
+    Ok(())
 }
 
-/// Adds a point at its place, unless it is there.
-fn put_in(points: &mut Vec<Unknown>, u: Unknown)
-    requires room { vec_len points.old < vec_capacity points.old }
-    requires ordered { IsSorted unknown_cmp points.old.items }
-    ensures members { (q : TheUnknown) → Contains points.new.items q ↔ (Contains points.old.items q ⊎ (q ≡ u)) }
-    ensures ordered { IsSorted unknown_cmp points.new.items }
-    ensures len { vec_len points.new ≤ vec_len points.old + 1 }
-    ensures capacity { vec_capacity points.old ≤ vec_capacity points.new }
+fn take_back(points: &mut BTreeSet<Unknown>, added: &[Unknown])
+    requires { IsAscending points.old.keys }
+    ensures members { (q : TheUnknown) → Contains points.new.keys q ↔ (Contains points.old.keys q × (Contains added.now q → ⊥)) }
+    ensures ascending { IsAscending points.new.keys }
 {
-    match points.binary_search(&u) {
-        Ok(_) => {}
-        Err(place) => insert_reserved(points, place, u),
-    }
-}
-
-fn insert_reserved(points: &mut Vec<Unknown>, place: usize, u: Unknown)
-    requires room { vec_len points.old < vec_capacity points.old }
-    requires place { place ≤ vec_len points.old }
-    ensures items { points.new.items ≡ insert points.old.items place u }
-    ensures len { vec_len points.new ≡ vec_len points.old + 1 }
-    ensures capacity { vec_capacity points.old ≤ vec_capacity points.new }
-{
-    match points.insert(place, u) {
-        Ok(()) => {}
-        Err(_) => unreachable!(),
+    for u in added {
+        take_out(points, u);
     }
 }

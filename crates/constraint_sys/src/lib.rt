@@ -1,12 +1,20 @@
-//! The constraint system of a program: its unknowns, the table of their values, what a point
-//! gets from its edges, and the turns that solve it.
+//! The constraint system of a program: its unknowns, the table of their values, what an edge gives
+//! by its action, what a point gets from its edges, the turns that solve it, and the law of turns.
 #![tactic(auto)]
 
+mod arise;
 mod dirty;
 mod edges;
+mod functions;
+mod keys;
 mod law;
+mod readers;
 mod start;
+mod system;
 mod table;
+#[cfg(test)]
+mod tests;
+mod transfer;
 mod turns;
 mod unknown;
 mod value;
@@ -14,10 +22,14 @@ mod value;
 pub use dirty::Dirty;
 pub use edges::contribution;
 pub use law::{
-    clean_is_post_solution, initial_is_sound, replays_are_sound, replays_go_on, turns_keep_sound,
+    clean_is_post_solution, contributions_are_local, contributions_fit, initial_is_sound,
+    initial_values_fit, post_solutions_bound_edges, replays_are_one, replays_are_sound,
+    replays_go_on, turns_keep_sound, turns_keep_turnable, turns_only_raise,
 };
 pub use start::initial;
+pub use system::System;
 pub use table::Table;
+pub use transfer::outcome;
 pub use turns::turn;
 pub use unknown::{ArgKey, Key, Unknown};
-pub use value::{Contribution, Effect, Value};
+pub use value::{Contribution, Effect, Outcome, Value};

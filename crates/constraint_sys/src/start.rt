@@ -1,21 +1,21 @@
 //! The table to begin with.
-ghost use Rattle.std.specs.Prelude.{◌≡◌, ◌++◌, ◌≤◌, [], ◌∷◌, ℕ, IfOk, OnOk, None, IsSorted, length};
+ghost use Rattle.std.specs.Prelude.{◌≡◌, ◌++◌, ◌≤◌, [], ◌∷◌, ℕ, IfOk, OnOk, None, length};
 ghost use Rattle.gob_tree.specs.Formed.{IsFormed};
 ghost use Rattle.interval_dom.specs.Bounds.{between};
 ghost use Rattle.state_dom.specs.StateValue.{start_of};
-ghost use Rattle.constraint_sys.specs.Table.{value_at, empty_key, unknown_cmp};
+ghost use Rattle.constraint_sys.specs.Table.{value_at, empty_key};
 ghost use Rattle.constraint_sys.specs.Turn.{initial_table, initial_dirty, initial_globals, bottoms, nodes_after_start};
 ghost use Rattle.constraint_sys.specs.declared.unknown.Unknown.TheVariants.{Point, Global as GlobalOf};
 ghost use Rattle.constraint_sys.specs.declared.value.Value.TheVariants.{State as StateOf};
 
 use crate::dirty::Dirty;
-use crate::edges::{function_at, room};
+use crate::functions::{function_at, room};
+use crate::keys::empty_key;
 use crate::table::Table;
-use crate::unknown::{ArgKey, Key, Unknown};
+use crate::unknown::Unknown;
 use crate::value::Value;
 use gob_tree::{FuncGraph, GlobalDecl, Memory, Program};
 use interval_dom::Interval;
-use lockset_dom::Locks;
 use state_dom::State;
 use std::alloc::Global;
 
@@ -31,7 +31,9 @@ pub fn initial(alloc: Global, program: &Program) -> Result<(Table, Dirty), Memor
     add_nodes(alloc, &mut table, program.main, main)?;
     add_globals(&mut table, program.globals.as_slice())?;
     let points = nodes_after_start(alloc, program.main, main)?;
-    Ok((table, Dirty::of_ascending(points)))
+    let mut dirty = Dirty::new(alloc);
+    dirty.add(alloc, points.as_slice())?;
+    Ok((table, dirty))
 }
 
 fn point(func: u16, node: u16) -> Unknown
@@ -39,11 +41,7 @@ fn point(func: u16, node: u16) -> Unknown
 {
     Unknown::Point {
         func,
-        key: Key {
-            a: ArgKey::Absent,
-            b: ArgKey::Absent,
-            locks: Locks::empty(),
-        },
+        key: empty_key(),
         node,
     }
 }
@@ -109,8 +107,7 @@ fn exactly(n: i64) -> Interval
 fn nodes_after_start(alloc: Global, func: u16, function: &FuncGraph) -> Result<Vec<Unknown>, Memory>
     requires entry_and_exit { 2 ≤ length function.now.nodes }
     requires nodes_limit { length function.now.nodes ≤ 4096 }
-    ensures nodes { IfOk result (λ us. us.items ≡ nodes_after_start func empty_key (length function.now.nodes)) }
-    ensures ascending { IfOk result (λ us. IsSorted unknown_cmp us.items) }
+    ensures { IfOk result (λ us. us.items ≡ nodes_after_start func empty_key (length function.now.nodes)) }
 {
     let nodes = function.nodes.len() as u16;
     let mut points = Vec::new(alloc);

@@ -1,16 +1,23 @@
 //! The table: the values of the unknowns, in the order in which they arose.
-ghost use Rattle.std.specs.Prelude.{◌≡◌, ◌≢◌, ◌∷◌, ◌++◌, [], None, Some, IfOk, OnOk, OnErr, length, IsPermutation, IsSorted, map, false};
+ghost use Rattle.std.specs.Prelude.{◌≡◌, ◌≢◌, ◌∷◌, ◌++◌, [], None, Some, IfOk, OnOk, OnErr, ◌↔◌, IsTrue, Some, length, slice_get, take, IsPermutation, IsSorted};
 ghost use Rattle.std.specs.Option.{option_copied};
 ghost use Rattle.std.specs.List.{IsDistinct};
 ghost use Rattle.std.specs.Map.{keys_of};
 ghost use Rattle.indexmap.specs.IndexMap.{IsUnique};
+ghost use Rattle.constraint_sys.specs.Arising.{AreAlike};
+ghost use Rattle.constraint_sys.specs.PostSolution.{BoundsAt};
+ghost use Rattle.constraint_sys.specs.Sound.{IsShaped, IsShapedEntry};
+ghost use Rattle.constraint_sys.specs.Turn.{raised_value};
 ghost use Rattle.constraint_sys.specs.declared.unknown.Unknown.{Unknown as TheUnknown};
+ghost use Rattle.constraint_sys.specs.declared.value.Value.{Value as TheValue};
 ghost use Rattle.constraint_sys.specs.Table.{value_at, with_value, unknown_eq, unknown_cmp, IsThere};
 
 use crate::unknown::Unknown;
 use crate::value::Value;
-use gob_tree::Memory;
+use gob_tree::{Memory, Program};
 use indexmap::IndexMap;
+use interval_dom::{Interval, Width};
+use state_dom::Thresholds;
 use std::alloc::Global;
 use std::marker::Model;
 
@@ -86,6 +93,48 @@ impl Table {
         ensures err { OnErr result (self.new ≡ self.old) }
     {
         put(&mut self.map, u, v)
+    }
+
+    /// Drops all entries but the first ones, so many.
+    pub(crate) fn truncate(&mut self, len: usize)
+        ensures { self.new ≡ take len self.old }
+    {
+        self.map.truncate(len);
+    }
+
+    /// The unknown of an entry, counted from 0 in the order of arising.
+    pub(crate) fn unknown(&self, index: usize) -> Option<Unknown>
+        ensures { result ≡ slice_get (keys_of self.now) index }
+    {
+        match self.map.get_index(index) {
+            Some((u, _)) => Some(*u),
+            None => None,
+        }
+    }
+
+    /// Whether the table has the unknown and bounds the value there.
+    pub(crate) fn bounds(&self, program: &Program, u: &Unknown, v: &Value) -> bool
+        requires shaped { IsShaped program.now self.now }
+        requires fits { IsShapedEntry program.now u.now v.now }
+        ensures { IsTrue result ↔ BoundsAt self.now u.now v.now }
+    {
+        match self.get(u) {
+            Some(old) => v.le(old),
+            None => false,
+        }
+    }
+
+    /// Raises the value of an unknown of the table; takes no memory.
+    pub(crate) fn raise(&mut self, u: &Unknown, v: &Value, marks: &Thresholds)
+        requires there { IsThere self.old u.now }
+        requires alike { (old : TheValue) → value_at self.old u.now ≡ Some old → AreAlike old v.now }
+        ensures { (old : TheValue) → value_at self.old u.now ≡ Some old → self.new ≡ with_value self.old u.now (raised_value marks.now old v.now) }
+    {
+        let place = Value::Number(Interval::full(Width::W32));
+        if let Ok(Some(mut old)) = self.map.insert(*u, place) {
+            old.raise(v, marks);
+            self.set(u, old);
+        }
     }
 
     /// Gives an unknown of the table another value; takes no memory.

@@ -1,40 +1,45 @@
 //! One turn: a dirty point is raised by its contribution.
-ghost use Rattle.std.specs.Prelude.{◌≡◌, ◌↔◌, ◌<◌, IfOk, OnOk, OnErr, IsTrue, IsPermutation, Contains, Some, length, is_none};
-ghost use Rattle.std.specs.Option.{option_copied};
-ghost use Rattle.gob_tree.specs.Built.{HasBuiltActions};
+ghost use Rattle.std.specs.Prelude.{◌≡◌, ◌≢◌, ◌⊎◌, ◌↔◌, All, Contains, IfOk, IsPermutation, OnOk, OnErr, IsTrue, Some, length, take};
+ghost use Rattle.std.specs.List.{IsDistinct};
+ghost use Rattle.std.specs.Map.{keys_of};
 ghost use Rattle.gob_tree.specs.Formed.{IsFormed};
-ghost use Rattle.state_dom.specs.StateValue.{StateValue, CoversState, room_of, raised_by};
+ghost use Rattle.gob_tree.specs.declared.graph.Program.{Program as TheProgram};
 ghost use Rattle.state_dom.specs.ThresholdValues.{thresholds_of};
-ghost use Rattle.constraint_sys.specs.Contribution.{Reads, readers_of};
+ghost use Rattle.constraint_sys.specs.Arising.{CanRaise, IsInner, IsLike, IsNewAt, arisen_in_each};
+ghost use Rattle.constraint_sys.specs.Index.{IsSystemOf};
+ghost use Rattle.constraint_sys.specs.PostSolution.{BoundsAt};
 ghost use Rattle.constraint_sys.specs.Sound.{IsShaped, CanTurn};
-ghost use Rattle.constraint_sys.specs.Table.{value_at, IsThere};
-ghost use Rattle.constraint_sys.specs.Turn.{Turns};
+ghost use Rattle.constraint_sys.specs.Table.{unknown_eq};
+ghost use Rattle.constraint_sys.specs.Turn.{IsAscending, IsBrought, ReadsRisen, Turns, raised_in_each, raises_of};
 ghost use Rattle.constraint_sys.specs.declared.unknown.Unknown.{Unknown as TheUnknown};
-ghost use Rattle.constraint_sys.specs.declared.value.Value.TheVariants.{State as StateOf};
+ghost use Rattle.constraint_sys.specs.declared.value.Effect.{Effect as TheEffect};
 
+use crate::arise::arise_each;
 use crate::dirty::Dirty;
-use crate::edges::{contribution_to, function_at};
+use crate::edges::contribution_to;
+use crate::readers::readers;
+use crate::system::System;
 use crate::table::Table;
-use crate::unknown::{Key, Unknown};
-use crate::value::Value;
+use crate::unknown::Unknown;
+use crate::value::{Effect, Value};
 use gob_tree::{Memory, Program};
-use state_dom::{State, Thresholds};
+use state_dom::Thresholds;
 use std::alloc::Global;
 
-/// One turn of a dirty point: its value is raised by its contribution, and where it rose, the points
-/// that read it are dirty. It takes its memory first; `Memory` is want of memory, and leaves the
-/// table and the dirty points as they were.
+/// One turn of a dirty point: its value is raised by its contribution, then the target of each
+/// effect is. Dirty are then the nodes that a new start brought and the points that read an unknown
+/// that rose. It takes its memory first; `Memory` is want of memory, and leaves the table and the
+/// dirty points as they were.
 pub fn turn(
     alloc: Global,
     program: &Program,
-    marks: &Thresholds,
+    system: &System,
     table: &mut Table,
     dirty: &mut Dirty,
     u: Unknown,
 ) -> Result<(), Memory>
     requires formed { IsFormed program.now }
-    requires built { HasBuiltActions program.now }
-    requires marks { IsPermutation (thresholds_of program.now) marks.now }
+    requires system { IsSystemOf program.now system.now }
     requires shaped { IsShaped program.now table.old }
     requires dirty_points { (q : TheUnknown) → Contains dirty.old q → CanTurn table.old q }
     requires is_dirty { Contains dirty.old u }
@@ -42,73 +47,170 @@ pub fn turn(
     ensures same_table { OnErr result (table.new ≡ table.old) }
     ensures same_dirty { OnErr result (dirty.new ≡ dirty.old) }
 {
-    let given = contribution_to(alloc, program, table, &u)?;
-    let mut state = state_of(alloc, program, table, &u)?;
-    let rose = state.up(&given.value, marks);
-    let readers = readers_if(alloc, program, table, &u, rose)?;
-    dirty.exchange(&u, readers.as_slice())?;
-    table.set(&u, Value::State(state));
+    let raises = raises(alloc, program, system, table, u)?;
+    let list = raises.as_slice();
+    let awake = awakened(alloc, program, system, table, list)?;
+    begin(alloc, program, table, dirty, &u, list, awake)?;
+    raise_each(table, list, system.thresholds());
     Ok(())
 }
 
-/// A copy of the state of a point of the table.
-fn state_of(alloc: Global, program: &Program, table: &Table, u: &Unknown) -> Result<State, Memory>
+/// What the turn raises, in order: the point by its contribution's value, then each effect's target.
+fn raises(
+    alloc: Global,
+    program: &Program,
+    system: &System,
+    table: &Table,
+    u: Unknown,
+) -> Result<Vec<Effect>, Memory>
+    requires formed { IsFormed program.now }
+    requires system { IsSystemOf program.now system.now }
     requires shaped { IsShaped program.now table.now }
-    requires there { CanTurn table.now u.now }
-    ensures { IfOk result (λ s. value_at table.now u.now ≡ Some (StateOf s)) }
+    requires there { CanTurn table.now u }
+    ensures { IfOk result (λ es. es.items ≡ raises_of program.now table.now u) }
 {
-    match table.get(u) {
-        Some(Value::State(state)) => state.copy(alloc),
-        Some(Value::Number(_)) => unreachable!(),
-        None => unreachable!(),
+    let given = contribution_to(alloc, program, system, table, &u)?;
+    let mut raises = Vec::new(alloc);
+    raises.push(Effect {
+        target: u,
+        value: Value::State(given.value),
+    })?;
+    for e in given.effects.into_vec() {
+        raises.push(e)?;
     }
+    Ok(raises)
 }
 
-/// The points of the table that read this one, where it rose.
-fn readers_if(
+/// The points that read what the raises make rise.
+fn awakened(
+    alloc: Global,
+    program: &Program,
+    system: &System,
+    table: &Table,
+    raises: &[Effect],
+) -> Result<Vec<Unknown>, Memory>
+    requires formed { IsFormed program.now }
+    requires system { IsSystemOf program.now system.now }
+    requires shaped { IsShaped program.now table.now }
+    requires fit { All (CanRaise program.now table.now) raises.now }
+    ensures { (q : TheUnknown) → IfOk result (λ us. Contains us.items q ↔ ReadsRisen program.now table.now (raised_in_each program.now table.now raises.now) q) }
+{
+    let rose = risen(alloc, program, table, raises)?;
+    readers(alloc, program, system, table, rose.as_slice())
+}
+
+/// The targets that don't bound what raises them.
+fn risen(
     alloc: Global,
     program: &Program,
     table: &Table,
-    u: &Unknown,
-    rose: bool,
+    raises: &[Effect],
 ) -> Result<Vec<Unknown>, Memory>
-    requires formed { IsFormed program.now }
-    requires built { HasBuiltActions program.now }
     requires shaped { IsShaped program.now table.now }
-    requires there { CanTurn table.now u.now }
-    ensures { (q : TheUnknown) → IfOk result (λ us. Contains us.items q ↔ (IsTrue rose × Reads program.now table.now q u.now)) }
+    requires fit { All (CanRaise program.now table.now) raises.now }
+    ensures { (r : TheUnknown) → IfOk result (λ us. Contains us.items r ↔ ((e : TheEffect) × Contains raises.now e × (e.target ≡ r) × (BoundsAt table.now e.target e.value → ⊥))) }
+{
+    let mut rose = Vec::new(alloc);
+    for e in raises {
+        if !table.bounds(program, &e.target, &e.value) {
+            rose.push(e.target)?;
+        }
+    }
+    Ok(rose)
+}
+
+/// Brings what arises into the table, and takes the point's turn off the dirty ones. `Memory` leaves
+/// both as they were.
+fn begin(
+    alloc: Global,
+    program: &Program,
+    table: &mut Table,
+    dirty: &mut Dirty,
+    u: &Unknown,
+    raises: &[Effect],
+    awake: Vec<Unknown>,
+) -> Result<(), Memory>
+    requires formed { IsFormed program.now }
+    requires fit { All (CanRaise program.now table.old) raises.now }
+    ensures table { OnOk result (table.new ≡ arisen_in_each program.now table.old raises.now) }
+    ensures dirty { (q : TheUnknown) → OnOk result (Contains dirty.new q ↔ (((Contains dirty.old q) × (q ≢ u.now)) ⊎ (IsBrought table.old table.new q ⊎ Contains awake.items q))) }
+    ensures same_table { OnErr result (table.new ≡ table.old) }
+    ensures same_dirty { OnErr result (dirty.new ≡ dirty.old) }
+    ensures ascending { OnOk result (IsAscending dirty.new) }
+{
+    let len = table.len();
+    match prepare(alloc, program, table, dirty, u, raises, awake) {
+        Ok(()) => Ok(()),
+        Err(error) => {
+            table.truncate(len);
+            Err(error)
+        }
+    }
+}
+
+/// The same, but `Memory` may leave entries beyond the old ones.
+fn prepare(
+    alloc: Global,
+    program: &Program,
+    table: &mut Table,
+    dirty: &mut Dirty,
+    u: &Unknown,
+    raises: &[Effect],
+    awake: Vec<Unknown>,
+) -> Result<(), Memory>
+    requires formed { IsFormed program.now }
+    requires fit { All (CanRaise program.now table.old) raises.now }
+    ensures table { OnOk result (table.new ≡ arisen_in_each program.now table.old raises.now) }
+    ensures dirty { (q : TheUnknown) → OnOk result (Contains dirty.new q ↔ (((Contains dirty.old q) × (q ≢ u.now)) ⊎ (IsBrought table.old table.new q ⊎ Contains awake.items q))) }
+    ensures begins { take (length table.old) table.new ≡ table.old }
+    ensures same_dirty { OnErr result (dirty.new ≡ dirty.old) }
+    ensures ascending { OnOk result (IsAscending dirty.new) }
+{
+    let len = table.len();
+    arise_each(alloc, program, table, raises)?;
+    let mut more = awake;
+    push_brought(&mut more, table, len)?;
+    dirty.exchange(alloc, u, more.as_slice())
+}
+
+/// Adds the points of nodes other than 0 among the entries from one on.
+fn push_brought(more: &mut Vec<Unknown>, table: &Table, from: usize) -> Result<(), Memory>
+    ensures more { (q : TheUnknown) → OnOk result (Contains more.new.items q ↔ (Contains more.old.items q ⊎ (IsInner q × IsNewAt from table.now q))) }
+    ensures distinct { IsDistinct unknown_eq (keys_of table.now) }
+{
+    for i in from..table.len() {
+        push_inner(more, table.unknown(i))?;
+    }
+    Ok(())
+}
+
+fn push_inner(more: &mut Vec<Unknown>, u: Option<Unknown>) -> Result<(), Memory>
+    ensures { (q : TheUnknown) → OnOk result (Contains more.new.items q ↔ (Contains more.old.items q ⊎ (IsInner q × (u ≡ Some q)))) }
+{
+    let Some(u) = u else {
+        return Ok(());
+    };
+    if is_inner(&u) {
+        more.push(u)?;
+    }
+    Ok(())
+}
+
+fn is_inner(u: &Unknown) -> bool
+    ensures { IsTrue result ↔ IsInner u.now }
 {
     match u {
-        Unknown::Point { func, key, node } if rose => {
-            let readers = readers_of(alloc, program, table, *func, key, *node)?;
-            Ok(readers)
-        }
-        _ => Ok(Vec::new(alloc)),
+        Unknown::Point { node, .. } => *node > 0,
+        Unknown::Global(_) => false,
     }
 }
 
-fn readers_of(
-    alloc: Global,
-    program: &Program,
-    table: &Table,
-    func: u16,
-    key: &Key,
-    node: u16,
-) -> Result<Vec<Unknown>, Memory>
-    requires formed { IsFormed program.now }
-    requires in_range { func < length program.now.funcs }
-    ensures { IfOk result (λ us. us.items ≡ readers_of program.now table.now func key.now node) }
+/// Raises each target, which is there; takes no memory.
+fn raise_each(table: &mut Table, raises: &[Effect], marks: &Thresholds)
+    requires alike { All (IsLike table.old) raises.now }
+    ensures { (p : TheProgram) → IsPermutation (thresholds_of p) marks.now → table.new ≡ raised_in_each p table.old raises.now }
 {
-    let mut found = Vec::new(alloc);
-    for edge in function_at(program, func).edges.as_slice() {
-        let end = Unknown::Point {
-            func,
-            key: *key,
-            node: edge.to,
-        };
-        if edge.from == node && table.get(&end).is_some() {
-            found.push(end)?;
-        }
+    for e in raises {
+        table.raise(&e.target, &e.value, marks);
     }
-    Ok(found)
 }

@@ -6,10 +6,9 @@ ghost use Rattle.gobpie_main.specs.Answer.{spent_line};
 ghost use Rattle.gobpie_main.specs.Reports.{IsReport};
 
 use crate::solve::solve;
-use constraint_sys::initial;
+use constraint_sys::{System, initial};
 use edition_core::print_table;
 use gob_tree::{Memory, Program};
-use state_dom::Thresholds;
 use std::alloc::Global;
 
 /// The bytes of a complete analysis, or that its budget was spent.
@@ -27,8 +26,8 @@ pub fn report_on(alloc: Global, program: &Program, budget: u64) -> Result<Report
     ensures { IfOk result (λ r. IsReport program.now budget r) }
 {
     let (mut table, mut dirty) = initial(alloc, program)?;
-    let marks = Thresholds::of(alloc, program)?;
-    let _trace = solve(alloc, program, &marks, &mut table, &mut dirty, budget)?;
+    let system = System::of(alloc, program)?;
+    let _trace = solve(alloc, program, &system, &mut table, &mut dirty, budget)?;
     if !dirty.is_empty() {
         return Ok(Report::Spent(spent_line(alloc, budget)?));
     }

@@ -1,14 +1,12 @@
 //! Turns until nothing is dirty, or the budget ends.
-ghost use Rattle.std.specs.Prelude.{◌≡◌, ◌<◌, ◌≤◌, [], IfOk, IsPermutation, length};
-ghost use Rattle.gob_tree.specs.Built.{HasBuiltActions};
+ghost use Rattle.std.specs.Prelude.{◌≡◌, ◌<◌, ◌≤◌, [], IfOk, length};
 ghost use Rattle.gob_tree.specs.Formed.{IsFormed};
-ghost use Rattle.state_dom.specs.ThresholdValues.{thresholds_of};
+ghost use Rattle.constraint_sys.specs.Index.{IsSystemOf};
 ghost use Rattle.constraint_sys.specs.Sound.{IsSound};
 ghost use Rattle.constraint_sys.specs.Turn.{Replays};
 
-use constraint_sys::{Dirty, Table, Unknown, turn};
+use constraint_sys::{Dirty, System, Table, Unknown, turn};
 use gob_tree::{Memory, Program, Seq};
-use state_dom::Thresholds;
 use std::alloc::Global;
 
 /// Takes the first dirty unknown until none is left or `budget` turns are made, and gives the trace of the
@@ -16,14 +14,13 @@ use std::alloc::Global;
 pub fn solve(
     alloc: Global,
     program: &Program,
-    marks: &Thresholds,
+    system: &System,
     table: &mut Table,
     dirty: &mut Dirty,
     budget: u64,
 ) -> Result<Seq<Unknown>, Memory>
     requires formed { IsFormed program.now }
-    requires built { HasBuiltActions program.now }
-    requires marks { IsPermutation (thresholds_of program.now) marks.now }
+    requires system { IsSystemOf program.now system.now }
     requires sound { IsSound program.now (record { table = table.old; dirty = dirty.old }) }
     ensures replayed { IfOk result (λ trace. Replays program.now (record { table = table.old; dirty = dirty.old }) trace (record { table = table.new; dirty = dirty.new })) }
     ensures sound { IfOk result (λ trace. IsSound program.now (record { table = table.new; dirty = dirty.new })) }
@@ -37,7 +34,7 @@ pub fn solve(
             break;
         };
         trace.push(*u)?;
-        turn(alloc, program, marks, table, dirty, *u)?;
+        turn(alloc, program, system, table, dirty, *u)?;
     }
     Ok(trace)
 }

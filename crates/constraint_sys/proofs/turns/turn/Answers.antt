@@ -1,34 +1,55 @@
-use Rattle.std.proofs.Common.{◌≡◌, ◌↔◌, List, sym, ap, ◌∙◌, subst}
-use Rattle.std.specs.Prelude.{Contains, IsTrue}
-use Rattle.state_dom.specs.StateValue.{StateValue, CoversState, raised_by, room_of}
-use Rattle.constraint_sys.specs.Contribution.{contribution_at, Reads}
-use Rattle.constraint_sys.specs.declared.value.Contribution.{Contribution}
-use Rattle.constraint_sys.specs.Table.{TableValue, with_value}
-use Rattle.constraint_sys.specs.Turn.{Turns}
-use Rattle.constraint_sys.specs.declared.unknown.Unknown.{Unknown}
-use Rattle.constraint_sys.specs.declared.value.Value.TheVariants.{State}
-use Rattle.constraint_sys.proofs.Rooms.{state_room}
-use Rattle.constraint_sys.proofs.Turning.{Turns-made}
+use Rattle.std.proofs.Common.{◌≡◌, ◌≢◌, ◌↔◌, ◌⊎◌, ℤ, List, sym, ap, ◌∙◌, subst}
+use Rattle.std.specs.Prelude.{All, Contains, IsPermutation}
+use Rattle.state_dom.specs.ThresholdValues.{thresholds_of}
+use Rattle.constraint_sys.specs.Arising.{CanRaise, IsLike, arisen_in_each}
+use Rattle.constraint_sys.specs.Table.{TableValue}
+use Rattle.constraint_sys.specs.Turn.{ReadsRisen, IsBrought, raised_in_each, raises_of}
+use Rattle.constraint_sys.specs.declared.value.Effect.{Effect}
+use Rattle.constraint_sys.proofs.Arisen.{IsLike-arisen, raised_arisen}
+use Rattle.constraint_sys.proofs.Made.{Turns-made}
+use Rattle.constraint_sys.proofs.Turning.{CanRaise-turn}
 use Rattle.constraint_sys.proofs.turns.turn.Goals as goal
 
-pub up-rose-requires : goal.up-rose-requires
-up-rose-requires c =
-    let can = c.requires.dirty_points c.args.u c.requires.is_dirty in
-    state_room c.args.program.now c.args.table.now c.args.u c.in_ok-state.state c.requires.shaped can c.in_ok-state.ensures ∙ sym (ap (λ (g : Contribution). room_of g.value) c.in_ok-given.ensures)
+pub awakened-requires-clause-fit : goal.awakened-requires-clause-fit
+awakened-requires-clause-fit c =
+    let p = c.args.program.now in
+    let t = c.args.table.now in
+    let u = c.args.u in
+    let is : c.as_slice-list.result.now ≡ raises_of p t u = c.as_slice-list.ensures.value ∙ c.in_ok-raises.ensures in
+    subst (λ (es : List Effect). All (CanRaise p t) es) (sym is) (CanRaise-turn p c.requires.formed t c.requires.shaped u (c.requires.dirty_points u c.requires.is_dirty))
+
+pub begin-requires-clause-fit : goal.begin-requires-clause-fit
+begin-requires-clause-fit c =
+    let p = c.args.program.now in
+    let t = c.args.table.now in
+    let u = c.args.u in
+    let is : c.as_slice-list.result.now ≡ raises_of p t u = c.as_slice-list.ensures.value ∙ c.in_ok-raises.ensures in
+    subst (λ (es : List Effect). All (CanRaise p t) es) (sym is) (CanRaise-turn p c.requires.formed t c.requires.shaped u (c.requires.dirty_points u c.requires.is_dirty))
+
+pub raise_each-requires : goal.raise_each-requires
+raise_each-requires c =
+    let p = c.args.program.now in
+    let t = c.args.table.now in
+    let u = c.args.u in
+    let es = c.as_slice-list.result.now in
+    let is : es ≡ raises_of p t u = c.as_slice-list.ensures.value ∙ c.in_ok-raises.ensures in
+    let can : All (CanRaise p t) es = subst (λ (l : List Effect). All (CanRaise p t) l) (sym is) (CanRaise-turn p c.requires.formed t c.requires.shaped u (c.requires.dirty_points u c.requires.is_dirty)) in
+    record { alike = subst (λ (s : TableValue). All (IsLike s) es) (sym c.in_ok-begin.ensures.table) (IsLike-arisen p t es c.requires.shaped can) }
 
 pub returns-clause-turned : goal.returns-clause-turned
 returns-clause-turned c =
     let p = c.args.program.now in
     let t = c.args.table.now in
     let u = c.args.u in
-    let a = c.in_ok-state.state in
-    let can = c.requires.dirty_points u c.requires.is_dirty in
-    let given : c.in_ok-given.given.value ≡ (contribution_at p t u).value = ap (λ (g : Contribution). g.value) c.in_ok-given.ensures in
-    let readers = c.as_slice.result.now in
-    let made = Turns-made p t c.args.dirty.now c.exchange.new.self u a c.args.marks.now c.up-rose.result readers c.requires.built c.requires.shaped can c.requires.is_dirty c.in_ok-state.ensures c.requires.marks
-    (subst (λ (s : StateValue). IsTrue c.up-rose.result ↔ (CoversState a s → ⊥)) given c.up-rose.ensures.rose)
-    (λ q. subst (λ (l : List Unknown). Contains l q ↔ (IsTrue c.up-rose.result × Reads p t q u)) (sym c.as_slice.ensures.value) (c.in_ok-readers.ensures q))
-    (λ q. c.in_ok-exchange.ensures.ok q) in
-    let raised = c.up-rose.ensures.value ∙ ap (λ (s : StateValue). raised_by c.args.marks.now a s) given in
-    let is = c.set.ensures ∙ ap (λ (s : StateValue). with_value t u (State s)) raised in
-    subst (λ (x : TableValue). Turns p (record { table = t; dirty = c.args.dirty.now }) u (record { table = x; dirty = c.exchange.new.self })) (sym is) made
+    let es = c.as_slice-list.result.now in
+    let dirty = c.args.dirty.now in
+    let is : es ≡ raises_of p t u = c.as_slice-list.ensures.value ∙ c.in_ok-raises.ensures in
+    let arisen : c.begin.new.table ≡ arisen_in_each p t (raises_of p t u) = c.in_ok-begin.ensures.table ∙ ap (arisen_in_each p t) is in
+    let final : c.raise_each.new.table ≡ raised_in_each p t (raises_of p t u) =
+    c.raise_each.ensures p (subst (λ (marks : List ℤ). IsPermutation (thresholds_of p) marks) (sym c.thresholds.ensures) c.requires.system.thresholds)
+    ∙ (λ i. raised_in_each p (arisen i) (is i))
+    ∙ raised_arisen p t (raises_of p t u) in
+    Turns-made p t dirty c.begin.new.dirty c.in_ok-awake.awake.items u c.raise_each.new.table c.requires.is_dirty final
+    (λ q. subst (λ (s : TableValue). Contains c.begin.new.dirty q ↔ (((Contains dirty q) × (q ≢ u)) ⊎ (IsBrought t s q ⊎ Contains c.in_ok-awake.awake.items q))) arisen (c.in_ok-begin.ensures.dirty q))
+    (λ q. subst (λ (l : List Effect). Contains c.in_ok-awake.awake.items q ↔ ReadsRisen p t (raised_in_each p t l) q) is (c.in_ok-awake.ensures q))
+    c.in_ok-begin.ensures.ascending

@@ -1,7 +1,7 @@
 use Rattle.std.proofs.Common.{◌≡◌, ◌++◌, ◌∷◌, [], ◌+◌, ℕ, List, None, length, slice_get, sym, ap, ◌∙◌, subst, arith, refl}
 use Rattle.std.proofs.lemmas.List.{length_push}
 use Rattle.constraint_sys.proofs.Replaying.{Replays-push}
-use Rattle.constraint_sys.proofs.SoundTurns.{IsSound-turned}
+use Rattle.constraint_sys.proofs.Turning.{IsSound-turned}
 use Rattle.constraint_sys.specs.Turn.{Replays, Solving, Turns}
 use Rattle.constraint_sys.specs.declared.unknown.Unknown.{Unknown}
 use Rattle.gobpie_main.proofs.solve.solve.Goals as goal
@@ -23,7 +23,7 @@ loop-i-preserved c =
     record {
       counted = ap (λ (l : List Unknown). length l) pushed ∙ length_push c.loop-i.trace u ∙ ap (λ (n : ℕ). n + 1) c.loop-i.invariant.counted;
       replayed = subst (λ (l : List Unknown). Replays p start l after) (sym pushed) (Replays-push p start c.loop-i.trace before u after c.loop-i.invariant.replayed turned);
-      sound = IsSound-turned p before u after c.requires.built c.loop-i.invariant.sound turned;
+      sound = IsSound-turned p before u after c.requires.formed c.loop-i.invariant.sound turned;
     }
 
 pub returns-clause-done : goal.returns-clause-done

@@ -1,5 +1,0 @@
-use Rattle.system_law.proofs.Locality.{contribution-local}
-use Rattle.system_law.proofs.law.contributions_are_local.Goals as goal
-
-pub returns : goal.returns
-returns c = λ p old new f key node same. contribution-local p old new f key node same

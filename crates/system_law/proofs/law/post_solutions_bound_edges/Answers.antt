@@ -1,8 +1,0 @@
-use Rattle.system_law.proofs.Edges.{edge_bounded, effect_bounded}
-use Rattle.system_law.proofs.law.post_solutions_bound_edges.Goals as goal
-
-pub returns-clause-state : goal.returns-clause-state
-returns-clause-state c = edge_bounded
-
-pub returns-clause-effects : goal.returns-clause-effects
-returns-clause-effects c = effect_bounded
