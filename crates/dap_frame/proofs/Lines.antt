@@ -34,6 +34,18 @@ take-append (x ∷ xs) ys k =
     let e : suc (length xs) + k ≡ suc (length xs + k) = omega arith in
     ap (λ (i : ℕ). take i (x ∷ (xs ++ ys))) e ∙ ap (λ (zs : List ℕ). x ∷ zs) (take-append xs ys k)
 
+-- The first bytes, cut in two.
+pub take_split : (a b : ℕ) (xs : List ℕ) → a ≤ length xs → take (a + b) xs ≡ take a xs ++ take b (drop a xs)
+take_split a b xs fits =
+    let long : length (take a xs) ≡ a = length-take-le a xs fits in
+    ap (take (a + b)) (sym (take-append-drop a xs))
+    ∙ ap (λ (k : ℕ). take (k + b) (take a xs ++ drop a xs)) (sym long)
+    ∙ take-append (take a xs) (drop a xs) b
+
+pub take_none : (xs : List ℕ) → take 0 xs ≡ []
+take_none [] = refl
+take_none (x ∷ xs) = refl
+
 -- Bytes without an LF, one part behind the other.
 pub no_lf-append : (xs ys : List ℕ) → HasNoLf xs → HasNoLf ys → HasNoLf (xs ++ ys)
 no_lf-append xs ys here there = list_any-append is_lf xs ys ∙ or_from (list_any is_lf xs) (list_any is_lf ys) here there

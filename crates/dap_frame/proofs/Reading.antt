@@ -14,7 +14,7 @@ use Rattle.dap_frame.specs.Header.{HasNoLf, lines_of, size_of, judged, nothing_s
 use Rattle.dap_frame.specs.Stream.{Next, message, unfinished, fault, content_at, next_by, next_from, told, End, failed, end_after, Ends, Reads}
 use Rattle.dap_frame.specs.Part.{IsUnfinished, end_within, Passes}
 use Rattle.dap_frame.proofs.Headers.{judged_size, fold-fault, fold-ended, fold_grows, header_on-line}
-use Rattle.dap_frame.proofs.Lines.{lines_of-part}
+use Rattle.dap_frame.proofs.Lines.{lines_of-part, take_split}
 
 -- what comes next, counted from k bytes earlier
 abbrev pub later : ℕ → Next → Next
@@ -137,6 +137,22 @@ passes_then h g k xs ys zs ms ns m n first second = record {
       subst (λ (cs : List (List ℕ)). Reads start h (xs ++ more) cs end) (sym (append_assoc ms ns contents))
       (first.on start (start + m) more (ns ++ contents) end refl tail);
 }
+
+-- The same with more behind.
+pub passes_behind : (h g : Header) (xs tail : List ℕ) (ms : List (List ℕ)) (n : ℕ) → Passes h xs ms n g [] → Passes h (xs ++ tail) ms n g tail
+passes_behind h g xs tail ms n first = record {
+  on = λ start at more contents end e reads.
+      subst (λ (bytes : List ℕ). Reads start h bytes (ms ++ contents) end) (sym (append_assoc xs tail more))
+      (first.on start at (tail ++ more) contents end e reads);
+}
+
+-- What the first bytes lead to, and then the next ones.
+pub passes_on : (h g k : Header) (bytes : List ℕ) (a b : ℕ) (ms ns : List (List ℕ)) (m n : ℕ) → a ≤ length bytes →
+    Passes h (take a bytes) ms m g [] → Passes g (take b (drop a bytes)) ns n k [] → Passes h (take (a + b) bytes) (ms ++ ns) (m + n) k []
+passes_on h g k bytes a b ms ns m n fits first second =
+    let next : List ℕ = take b (drop a bytes) in
+    subst (λ (xs : List ℕ). Passes h xs (ms ++ ns) (m + n) k []) (sym (take_split a b bytes fits))
+    (passes_then h g k (take a bytes ++ next) next [] ms ns m n (passes_behind h g (take a bytes) next ms m first) second)
 
 -- A whole line.
 pub passes_line : (head : Head) (text rest : List ℕ) → HasNoLf text → head.size + length text < MAX_HEADER →

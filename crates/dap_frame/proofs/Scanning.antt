@@ -1,7 +1,7 @@
 -- A scan, step by step.
-use Rattle.std.proofs.Common.{◌≡◌, ℕ, ◌+◌, ◌-◌, ◌<◌, ◌≤◌, List, [], ◌∷◌, ◌++◌, length, take, drop, sym, ◌∙◌, ap, subst, arith}
+use Rattle.std.proofs.Common.{◌≡◌, ℕ, ◌+◌, ◌-◌, ◌%◌, ◌<◌, ◌≤◌, ◌^◌, List, [], ◌∷◌, ◌++◌, length, take, drop, sym, ◌∙◌, ap, subst, arith, append_assoc, mod-eq_of_lt}
 use Rattle.std.specs.Prelude.{Some, None, position, min, Result, Ok, Err, IfOk}
-use Rattle.std.proofs.lemmas.List.{drop-drop, length-drop, length-take-le, take_min, take_rest, take-append-drop, append-nil}
+use Rattle.std.proofs.lemmas.List.{drop-drop, length-drop, length-take-le, take_min, take_rest, take-append-drop, take_more, append-nil}
 use Rattle.dap_frame.specs.declared.header.TheConstants.{MAX_HEADER}
 use Rattle.dap_frame.specs.declared.header.Head.{Head}
 use Rattle.dap_frame.specs.declared.header.Header.{Header}
@@ -13,14 +13,18 @@ use Rattle.dap_frame.specs.declared.scan.Part.TheVariants.{Message, Unfinished}
 use Rattle.dap_frame.specs.declared.scan.Scan.{Scan}
 use Rattle.dap_frame.specs.Header.{HasNoLf, size_of, IsBounded, judged, nothing_said}
 use Rattle.dap_frame.specs.Part.{Passes, Stops}
-use Rattle.dap_frame.specs.Scan.{HasNoWholeLine, weight, HasRead, IsWhole, IsRest, IsPart, IsContentPart, contents, HasScanned, IsScan}
+use Rattle.dap_frame.specs.Scan.{HasNoWholeLine, weight, HasRead, IsWhole, IsRest, IsPart, IsContentPart, contents, places, IsPlaced, ArePlaced, HasScanned, IsScan}
 use Rattle.dap_frame.proofs.Headers.{size_most, judged_size, judged_bounded}
-use Rattle.dap_frame.proofs.Lines.{is_lf, IsLineAt, line_at, line_at-take, line_cut, no_line}
-use Rattle.dap_frame.proofs.Reading.{passes_none, passes_then, passes_line, passes_content, passes_full, passes_fault}
+use Rattle.dap_frame.proofs.Lines.{is_lf, IsLineAt, line_at, line_at-take, line_cut, no_line, take_none}
+use Rattle.dap_frame.proofs.Reading.{passes_none, passes_then, passes_line, passes_content, passes_full, passes_fault, passes_on}
+
+alone_none : (header : Header) (bytes : List ℕ) → Passes header (take 0 bytes) [] 0 header []
+alone_none header bytes = subst (λ (xs : List ℕ). Passes header xs [] 0 header []) (sym (take_none bytes)) (passes_none header [])
 
 pub read_none : (header : Header) (bytes : List ℕ) → IsBounded header → HasRead header bytes header 0
 read_none header bytes most = record {
   passes = passes_none header bytes;
+  alone = alone_none header bytes;
   within = omega arith;
   sizes = omega arith;
   most = most;
@@ -52,8 +56,14 @@ read_line header bytes head at end so_far found =
     (subst (λ (xs : List ℕ). Passes (Open head) xs [] 0 (judged head text) (drop (end + 1) rest)) (line_cut rest end line)
     (passes_line head text (drop (end + 1) rest) line.none_before (omega arith))) in
     let size : size_of (judged head text) ≤ head.size + length text + 1 = size_most (judged head text) (head.size + length text + 1) (judged_size head text) in
+    let cut : text ++ 10 ∷ [] ≡ take (end + 1) rest = sym (take_more rest end 0 line.within ∙ ap (λ (b : ℕ). text ++ b ∷ []) line.here) in
+    let only : Passes (Open head) (take (end + 1) rest) [] 0 (judged head text) [] =
+    subst (λ (xs : List ℕ). Passes (Open head) xs [] 0 (judged head text) []) cut (passes_line head text [] line.none_before (omega arith)) in
+    let place : at + (end + 1) ≡ at + end + 1 = omega arith in
     record {
       passes = passes_then header (Open head) (judged head text) bytes rest (drop (at + end + 1) bytes) [] [] 0 0 so_far.passes step;
+      alone = subst (λ (k : ℕ). Passes header (take k bytes) [] 0 (judged head text) []) place
+          (passes_on header (Open head) (judged head text) bytes at (end + 1) [] [] 0 0 so_far.within so_far.alone only);
       within = omega (arith, line.within, so_far.within);
       sizes = omega (arith, so_far.sizes);
       most = judged_bounded head text (omega arith);
@@ -93,9 +103,17 @@ part_from_content header bytes size n used (Message content whole last) read is 
     (subst (λ (xs : List ℕ). Passes (Ended size n) xs (content.items ∷ []) (size + n) (Open nothing_said) (drop n rest)) cut
     (passes_content size n content.items (drop n rest) long))) in
     let all : 0 + whole ≡ whole = omega arith in
+    let only : Passes (Ended size n) (take n rest) (content.items ∷ []) (size + n) (Open nothing_said) [] =
+    subst (λ (xs : List ℕ). Passes (Ended size n) xs (content.items ∷ []) (size + n) (Open nothing_said) []) (append-nil content.items ∙ is.0)
+    (passes_content size n content.items [] long) in
+    let sum : 0 + (size + n) ≡ whole = (let e : 0 + (size + n) ≡ size + n = omega arith in e) ∙ sym is.2 in
     record {
       passes = subst (λ (k : ℕ). Passes header bytes (content.items ∷ []) k (Open nothing_said) (drop last bytes)) all
           (passes_then header (Ended size n) (Open nothing_said) bytes rest (drop last bytes) [] (content.items ∷ []) 0 whole read.passes step);
+      alone = subst (λ (k : ℕ). Passes header (take k bytes) (content.items ∷ []) whole (Open nothing_said) []) (sym is.3)
+          (subst (λ (k : ℕ). Passes header (take (used + n) bytes) (content.items ∷ []) k (Open nothing_said) []) sum
+          (passes_on header (Ended size n) (Open nothing_said) bytes used n [] (content.items ∷ []) 0 (size + n) read.within read.alone only));
+      behind = omega (arith, is.3);
       within = omega (arith, is.1, is.3, read.within);
       sizes = omega (arith, is.2, is.3, read.sizes);
       progress = omega (arith, read.progress, is.3);
@@ -136,33 +154,57 @@ rest_from_fault header bytes f used rest read empty = record {
   most = tt;
 }
 
-pub scanned_none : (header : Header) (bytes : List ℕ) → IsBounded header → HasScanned header bytes [] 0 header 0
-scanned_none header bytes most = record {
+pub scanned_none : (origin : ℕ) (header : Header) (bytes : List ℕ) → IsBounded header → HasScanned origin header bytes [] [] 0 header 0
+scanned_none origin header bytes most = record {
   passes = passes_none header bytes;
+  alone = alone_none header bytes;
   within = omega arith;
   sizes = omega arith;
   most = most;
+  placed = λ short. tt;
 }
 
+-- One more message has its place.
+placed_more : (origin : ℕ) (header : Header) (rest bytes : List ℕ) (before messages : List (List ℕ)) (places : List ℕ) (content : List ℕ) (place : ℕ) →
+    ArePlaced origin header rest bytes before messages places → IsPlaced origin header rest bytes (before ++ messages) content place →
+    ArePlaced origin header rest bytes before (messages ++ content ∷ []) (places ++ place ∷ [])
+placed_more origin header rest bytes before [] [] content place so_far more =
+    (subst (λ (ms : List (List ℕ)). IsPlaced origin header rest bytes ms content place) (append-nil before) more, tt)
+placed_more origin header rest bytes before [] (p ∷ ps) content place so_far more = absurd so_far
+placed_more origin header rest bytes before (m ∷ ms) [] content place so_far more = absurd so_far
+placed_more origin header rest bytes before (m ∷ ms) (p ∷ ps) content place so_far more = (
+  so_far.0,
+  placed_more origin header rest bytes (before ++ m ∷ []) ms ps content place so_far.1
+      (subst (λ (ns : List (List ℕ)). IsPlaced origin header rest bytes ns content place) (sym (append_assoc before (m ∷ []) ms)) more),
+)
+
 -- One more message.
-pub scanned_message : (header : Header) (bytes : List ℕ) (messages : List (List ℕ)) (start : ℕ) (reached : Header) (at : ℕ) (content : List ℕ) (size used : ℕ) →
-    HasScanned header bytes messages start reached at → IsWhole reached (drop at bytes) content size used →
-    HasScanned header bytes (messages ++ content ∷ []) (start + size) (Open nothing_said) (at + used)
-scanned_message header bytes messages start reached at content size used so_far whole =
+pub scanned_message : (origin : ℕ) (header : Header) (bytes : List ℕ) (messages : List (List ℕ)) (places : List ℕ) (start : ℕ) (reached : Header) (at : ℕ) (content : List ℕ) (size used place : ℕ) →
+    HasScanned origin header bytes messages places start reached at → IsWhole reached (drop at bytes) content size used →
+    (origin + length bytes < 2 ^ 64 → place + length content ≡ origin + (at + used)) →
+    HasScanned origin header bytes (messages ++ content ∷ []) (places ++ place ∷ []) (start + size) (Open nothing_said) (at + used)
+scanned_message origin header bytes messages places start reached at content size used place so_far whole ends =
     let left : length (drop at bytes) ≡ length bytes - at = length-drop at bytes in
+    let within : at + used ≤ length bytes = omega (arith, so_far.within, whole.within) in
+    let alone : Passes header (take (at + used) bytes) (messages ++ content ∷ []) (start + size) (Open nothing_said) [] =
+    passes_on header reached (Open nothing_said) bytes at used messages (content ∷ []) start size so_far.within so_far.alone whole.alone in
     record {
       passes = subst (λ (xs : List ℕ). Passes header bytes (messages ++ content ∷ []) (start + size) (Open nothing_said) xs) (drop-drop used at bytes)
           (passes_then header reached (Open nothing_said) bytes (drop at bytes) (drop used (drop at bytes)) messages (content ∷ []) start size so_far.passes whole.passes);
-      within = omega (arith, so_far.within, whole.within);
+      alone = alone;
+      within = within;
       sizes = omega (arith, so_far.sizes, whole.sizes);
       most = omega arith;
+      placed = λ short.
+          placed_more origin header [] bytes [] messages places content place (so_far.placed short)
+          (record { used = at + used; size = start + size; within = within; ends = ends short; passes = alone });
     }
 
 -- What comes after the last message.
-pub scan_from_rest : (header : Header) (bytes : List ℕ) (reached : Header) (at : ℕ) (scan : Scan) →
-    HasScanned header bytes (contents scan.messages.items) scan.start reached at → IsRest reached (drop at bytes) scan.header scan.rest.items →
-    IsScan header bytes scan
-scan_from_rest header bytes reached at scan so_far is =
+pub scan_from_rest : (origin : ℕ) (header : Header) (bytes : List ℕ) (reached : Header) (at : ℕ) (scan : Scan) →
+    HasScanned origin header bytes (contents scan.messages.items) (places scan.messages.items) scan.start reached at →
+    IsRest reached (drop at bytes) scan.header scan.rest.items → IsScan origin header bytes scan
+scan_from_rest origin header bytes reached at scan so_far is =
     let left : length (drop at bytes) ≡ length bytes - at = length-drop at bytes in
     let same : scan.start + 0 ≡ scan.start = omega arith in
     record {
@@ -172,4 +214,16 @@ scan_from_rest header bytes reached at scan so_far is =
       stops = is.stops;
       sizes = omega (arith, so_far.within, so_far.sizes, is.sizes);
       most = is.most;
+      placed = λ below. so_far.placed;
     }
+
+-- The place of a content's first byte, from its last one's.
+pub place_of_end : (origin all at long place : ℕ) → at ≤ all → long ≤ at → place ≡ (origin + (at - long)) % 2 ^ 64 → origin + all < 2 ^ 64 → place + long ≡ origin + at
+place_of_end origin all at long place within behind is short =
+    let same : (origin + (at - long)) % 2 ^ 64 ≡ origin + (at - long) = mod-eq_of_lt (omega arith) in
+    let e : place ≡ origin + (at - long) = is ∙ same in
+    omega arith
+
+-- A sum that doesn't wrap.
+pub sum_below : (a b bound sum : ℕ) → b ≤ bound → sum ≡ (a + b) % 2 ^ 64 → a + bound < 2 ^ 64 → sum ≡ a + b
+sum_below a b bound sum within is short = is ∙ mod-eq_of_lt (omega arith)

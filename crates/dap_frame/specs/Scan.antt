@@ -1,18 +1,21 @@
 -- What a scan of bytes finds.
-use Rattle.std.specs.Prelude.{◌≡◌, ℕ, ◌+◌, ◌-◌, ◌<◌, ◌≤◌, List, [], ◌∷◌, length, take, drop, map}
-use Rattle.std.specs.Global.{Vec}
+use Rattle.std.specs.Prelude.{◌≡◌, ℕ, ◌+◌, ◌-◌, ◌<◌, ◌≤◌, ◌^◌, List, [], ◌∷◌, ◌++◌, length, take, drop, map}
 use Rattle.dap_frame.specs.Limits.{header_limit}
 use Rattle.dap_frame.specs.declared.header.Header.{Header}
 use Rattle.dap_frame.specs.declared.header.Header.TheVariants.{Open, Ended, Faulty}
 use Rattle.dap_frame.specs.declared.scan.Part.{Part}
 use Rattle.dap_frame.specs.declared.scan.Part.TheVariants.{Message, Unfinished}
+use Rattle.dap_frame.specs.declared.scan.Placed.{Placed}
 use Rattle.dap_frame.specs.declared.scan.Scan.{Scan}
 use Rattle.dap_frame.specs.Header.{HasNoLf, nothing_said, size_of, IsBounded}
 use Rattle.dap_frame.specs.Part.{Passes, Stops}
 
--- messages without where they lie in memory
-abbrev pub contents : List (Vec ℕ) → List (List ℕ)
-contents messages = map (λ message. message.items) messages
+-- the contents of messages, and the places of their first bytes
+abbrev pub contents : List Placed → List (List ℕ)
+contents messages = map (λ message. message.content.items) messages
+
+abbrev pub places : List Placed → List ℕ
+places messages = map (λ message. message.start) messages
 
 -- no line of the header ends in the bytes
 abbrev pub HasNoWholeLine : Header → List ℕ → Type 0
@@ -29,6 +32,7 @@ weight (Faulty f) = 0
 -- the first `at` bytes are whole lines, which lead from a header to the one that was reached
 pub record HasRead (header : Header) (bytes : List ℕ) (reached : Header) (at : ℕ) : Type 0 where
   pub passes : Passes header bytes [] 0 reached (drop at bytes)
+  pub alone : Passes header (take at bytes) [] 0 reached []
   pub within : at ≤ length bytes
   pub sizes : size_of reached ≤ size_of header + at
   pub most : IsBounded reached
@@ -37,7 +41,9 @@ pub record HasRead (header : Header) (bytes : List ℕ) (reached : Header) (at :
 -- the first `used` bytes end a message, which has `size` bytes with all of its header
 pub record IsWhole (header : Header) (bytes content : List ℕ) (size used : ℕ) : Type 0 where
   pub passes : Passes header bytes (content ∷ []) size (Open nothing_said) (drop used bytes)
+  pub alone : Passes header (take used bytes) (content ∷ []) size (Open nothing_said) []
   pub within : used ≤ length bytes
+  pub behind : length content ≤ used
   pub sizes : size ≤ size_of header + used
   pub progress : 0 < weight header + used
 
@@ -58,20 +64,41 @@ IsContentPart size n before bytes (Message content whole used) =
     (content.items ≡ take n bytes) × (n ≤ length bytes) × (whole ≡ size + n) × (used ≡ before + n)
 IsContentPart size n before bytes (Unfinished reached rest) = (reached ≡ Ended size n) × (rest.items ≡ bytes) × (length bytes < n)
 
+-- The first `used` of the bytes, with `rest` before them, end the message behind `before`; the place of
+-- its content's first byte is `place`, where the bytes begin at the place `origin`.
+pub record IsPlaced (origin : ℕ) (header : Header) (rest bytes : List ℕ) (before : List (List ℕ)) (content : List ℕ) (place : ℕ) : Type 0 where
+  pub used : ℕ
+  pub size : ℕ
+  pub within : used ≤ length bytes
+  pub ends : place + length content ≡ origin + used
+  pub passes : Passes header (rest ++ take used bytes) (before ++ content ∷ []) size (Open nothing_said) []
+
+-- each of the messages, one after another
+abbrev pub ArePlaced : ℕ → Header → List ℕ → List ℕ → List (List ℕ) → List (List ℕ) → List ℕ → Type 0
+ArePlaced origin header rest bytes before [] [] = Unit {0}
+ArePlaced origin header rest bytes before [] (place ∷ places) = ⊥
+ArePlaced origin header rest bytes before (content ∷ contents) [] = ⊥
+ArePlaced origin header rest bytes before (content ∷ contents) (place ∷ places) =
+    IsPlaced origin header rest bytes before content place × ArePlaced origin header rest bytes (before ++ content ∷ []) contents places
+
 -- the messages end where the first `at` bytes do, and the next one begins `start` bytes after the first
-pub record HasScanned (header : Header) (bytes : List ℕ) (messages : List (List ℕ)) (start : ℕ) (reached : Header) (at : ℕ) : Type 0 where
+pub record HasScanned (origin : ℕ) (header : Header) (bytes : List ℕ) (messages : List (List ℕ)) (places : List ℕ) (start : ℕ) (reached : Header) (at : ℕ) : Type 0 where
   pub passes : Passes header bytes messages start reached (drop at bytes)
+  pub alone : Passes header (take at bytes) messages start reached []
   pub within : at ≤ length bytes
   pub sizes : start + size_of reached ≤ size_of header + at
   pub most : IsBounded reached
+  pub placed : origin + length bytes < 2 ^ 64 → ArePlaced origin header [] bytes [] messages places
 
--- the bytes are these messages, and then what the scan says
-pub record LeadsTo (header : Header) (bytes : List ℕ) (messages : List (List ℕ)) (scan : Scan) : Type 0 where
-  pub passes : Passes header bytes messages scan.start scan.header scan.rest.items
+-- The bytes `rest`, and then bytes from the place `origin` on, are these messages at these places, and
+-- then what the scan says.
+pub record LeadsTo (origin : ℕ) (header : Header) (rest bytes : List ℕ) (messages : List (List ℕ)) (places : List ℕ) (scan : Scan) : Type 0 where
+  pub passes : Passes header (rest ++ bytes) messages scan.start scan.header scan.rest.items
   pub stops : Stops scan.header scan.rest.items
-  pub sizes : scan.start + size_of scan.header + length scan.rest.items ≤ size_of header + length bytes
+  pub sizes : scan.start + size_of scan.header + length scan.rest.items ≤ size_of header + length (rest ++ bytes)
   pub most : IsBounded scan.header
+  pub placed : length rest ≤ origin → origin + length bytes < 2 ^ 64 → ArePlaced origin header rest bytes [] messages places
 
 -- what a scan of the bytes is
-abbrev pub IsScan : Header → List ℕ → Scan → Type 0
-IsScan header bytes scan = LeadsTo header bytes (contents scan.messages.items) scan
+abbrev pub IsScan : ℕ → Header → List ℕ → Scan → Type 0
+IsScan origin header bytes scan = LeadsTo origin header [] bytes (contents scan.messages.items) (places scan.messages.items) scan

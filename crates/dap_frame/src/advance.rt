@@ -21,31 +21,48 @@ pub enum Progress {
     Fills { missing: usize, scan: Scan },
 }
 
-/// What comes of the bytes `rest` after the header's lines with a piece behind them.
-pub fn advance(alloc: Global, header: Header, rest: &[u8], piece: &[u8]) -> Result<Progress, Memory>
+/// What comes of the bytes `rest` after the header's lines with a piece behind them, which begins at
+/// the place `origin` of the stream.
+pub fn advance(
+    alloc: Global,
+    origin: u64,
+    header: Header,
+    rest: &[u8],
+    piece: &[u8],
+) -> Result<Progress, Memory>
     requires part { IsUnfinished header rest.now }
     requires bound { IsBounded header }
-    ensures { IfOk result (IsProgress header rest.now piece.now) }
+    ensures { IfOk result (IsProgress origin header rest.now piece.now) }
 {
     match header {
-        Header::Open(_) if rest.is_empty() => Ok(Progress::Reads(read_on(alloc, header, piece)?)),
-        Header::Open(head) => advance_line(alloc, head, rest, piece),
-        Header::Ended { size, n } => advance_content(alloc, size, n, rest, piece),
+        Header::Open(_) if rest.is_empty() => {
+            Ok(Progress::Reads(read_on(alloc, origin, header, piece)?))
+        }
+        Header::Open(head) => advance_line(alloc, origin, head, rest, piece),
+        Header::Ended { size, n } => advance_content(alloc, origin, size, n, rest, piece),
         Header::Faulty(_) => unreachable!(),
     }
 }
 
 /// The same of a line that `rest` begins.
-fn advance_line(alloc: Global, head: Head, rest: &[u8], piece: &[u8]) -> Result<Progress, Memory>
+fn advance_line(
+    alloc: Global,
+    origin: u64,
+    head: Head,
+    rest: &[u8],
+    piece: &[u8],
+) -> Result<Progress, Memory>
     requires { IsLinePart head rest.now }
-    ensures { IfOk result (IsProgress (Header.Open head) rest.now piece.now) }
+    ensures { IfOk result (IsProgress origin (Header.Open head) rest.now piece.now) }
 {
     let room = MAX_HEADER - head.size - rest.len();
     if let Some(end) = place_of(b'\n', &piece[..room.min(piece.len())]) {
         let mut line = Vec::from_slice(alloc, rest)?;
         line.extend_from_slice(&piece[..end])?;
         let header = head.judged(line.as_slice());
-        return Ok(Progress::Reads(read_on(alloc, header, &piece[end + 1..])?));
+        let behind = origin.wrapping_add((end + 1) as u64);
+        let scan = read_on(alloc, behind, header, &piece[end + 1..])?;
+        return Ok(Progress::Reads(scan));
     }
     if piece.len() < room {
         return Ok(Progress::Grows);
@@ -61,6 +78,7 @@ fn advance_line(alloc: Global, head: Head, rest: &[u8], piece: &[u8]) -> Result<
 /// The same of a content of `n` bytes that `rest` begins, behind a header of `size` bytes.
 fn advance_content(
     alloc: Global,
+    origin: u64,
     size: usize,
     n: u64,
     rest: &[u8],
@@ -68,13 +86,14 @@ fn advance_content(
 ) -> Result<Progress, Memory>
     requires part { length rest.now < n }
     requires bound { IsBounded (Header.Ended size n) }
-    ensures { IfOk result (IsProgress (Header.Ended size n) rest.now piece.now) }
+    ensures { IfOk result (IsProgress origin (Header.Ended size n) rest.now piece.now) }
 {
     let missing = n as usize - rest.len();
     if piece.len() < missing {
         return Ok(Progress::Grows);
     }
-    let mut scan = read_on(alloc, Header::Open(Head::new()), &piece[missing..])?;
+    let behind = origin.wrapping_add(missing as u64);
+    let mut scan = read_on(alloc, behind, Header::Open(Head::new()), &piece[missing..])?;
     scan.start += size + n as usize;
     Ok(Progress::Fills { missing, scan })
 }

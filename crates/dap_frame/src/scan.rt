@@ -25,10 +25,17 @@ enum Part {
     },
 }
 
+/// The content of a whole message, and the place of its first byte in the stream.
+#[derive(Drop)]
+pub struct Placed {
+    pub start: u64,
+    pub content: Vec<u8>,
+}
+
 /// The messages that bytes end, and what they begin after these.
 #[derive(Drop)]
 pub struct Scan {
-    pub messages: VecDeque<Vec<u8>>,
+    pub messages: VecDeque<Placed>,
     /// The number of bytes of these messages with their headers.
     pub start: usize,
     /// The header of the message that comes next, as far as its lines are whole.
@@ -37,11 +44,12 @@ pub struct Scan {
     pub rest: Vec<u8>,
 }
 
-/// Reads bytes that come after a header's whole lines. A byte is looked at for the end of its line and
-/// when that line is judged, or it is copied once into its content.
-pub fn read_on(alloc: Global, header: Header, bytes: &[u8]) -> Result<Scan, Memory>
+/// Reads bytes that come after a header's whole lines, and after `origin` bytes of the stream. A byte
+/// is looked at for the end of its line and when that line is judged, or it is copied once into its
+/// content.
+pub fn read_on(alloc: Global, origin: u64, header: Header, bytes: &[u8]) -> Result<Scan, Memory>
     requires { IsBounded header }
-    ensures { IfOk result (IsScan header bytes.now) }
+    ensures { IfOk result (IsScan origin header bytes.now) }
 {
     let mut messages = VecDeque::new(alloc);
     let mut header = header;
@@ -54,7 +62,12 @@ pub fn read_on(alloc: Global, header: Header, bytes: &[u8]) -> Result<Scan, Memo
                 size,
                 used,
             } => {
-                messages.push_back(content)?;
+                let length = content.as_slice().len();
+                let place = origin.wrapping_add((at + used - length) as u64);
+                messages.push_back(Placed {
+                    start: place,
+                    content,
+                })?;
                 header = Header::Open(Head::new());
                 start += size;
                 at += used;

@@ -58,6 +58,21 @@ fn a_request_byte_by_byte(rt: HostRuntime) -> Result<(), Fail> {
 }
 
 #[test]
+fn where_the_next_content_begins(rt: HostRuntime) -> Result<(), Fail> {
+    let mut framer = Framer::new(rt.alloc());
+    assert_eq!(rt; framer.next_start(), None);
+    framer.feed(b"Content-Length: 2\r\n\r\n{}Content-Length: 1\r\nX")?;
+    assert_eq!(rt; framer.next_start(), Some(21));
+    framer.feed(b": y\r\n\r\n")?;
+    framer.feed(b"{")?;
+    assert!(rt; framer.take().is_some());
+    assert_eq!(rt; framer.next_start(), Some(50));
+    assert!(rt; framer.take().is_some());
+    assert_eq!(rt; framer.next_start(), None);
+    Ok(())
+}
+
+#[test]
 fn ten_bytes_are_inside_a_message(rt: HostRuntime) -> Result<(), Fail> {
     let mut framer = Framer::new(rt.alloc());
     framer.feed(&REQUEST[..10])?;
