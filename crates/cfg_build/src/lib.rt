@@ -12,3 +12,6 @@ mod route;
 
 pub use drawing::{build, silent_edges};
 pub use fault::BuildFault;
+
+#[cfg(test)]
+mod tests;
