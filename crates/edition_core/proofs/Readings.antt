@@ -5,22 +5,8 @@ use Rattle.std.proofs.lemmas.Option.{get_or_from_slice_get, slice_get_within, sl
 use Rattle.gob_tree.specs.declared.unit.Slot.{Slot}
 use Rattle.interval_dom.specs.Bounds.{Bounds}
 use Rattle.state_dom.specs.StateValue.{StateValue, Bottom, Reached, FitsEach, HasShape, slots_of, is_reached}
-use Rattle.edition_core.specs.Labels.{labels_of, labels_after, label_of, count_of_name}
+use Rattle.gob_tree.proofs.LabelReadings.{drop_at}
 use Rattle.edition_core.specs.Printed.{slots_text, slot_text}
-
-module _ {X : Type 0} where
-  pub drop_at : (xs : List X) (i : ℕ) (x : X) → slice_get xs i ≡ Some x → drop i xs ≡ x ∷ drop (i + 1) xs
-  drop_at xs i x is =
-      drop-cons xs i x (slice_get_within xs i x is) ∙ ap (λ (z : X). z ∷ drop (suc i) xs) (get_or_from_slice_get xs i x x is) ∙ ap (λ (n : ℕ). x ∷ drop n xs) (sym (add-one i))
-
-  pub take_at : (xs : List X) (i : ℕ) (x : X) → slice_get xs i ≡ Some x → take (i + 1) xs ≡ take i xs ++ x ∷ []
-  take_at xs i x is =
-      ap (λ (n : ℕ). take n xs) (add-one i) ∙ take-suc xs i x (slice_get_within xs i x is) ∙ ap (λ (z : X). take i xs ++ z ∷ []) (get_or_from_slice_get xs i x x is)
-
-  -- what is added to a list goes from what is left to what is there
-  pub grown : (now then piece left rest whole : List X) → then ≡ now ++ piece → left ≡ piece ++ rest → now ++ left ≡ whole → then ++ rest ≡ whole
-  grown now then piece left rest whole added begins all =
-      ap (λ (l : List X). l ++ rest) added ∙ append_assoc now piece rest ∙ ap (λ (l : List X). now ++ l) (sym begins) ∙ all
 
 -- the text of slots begins with that of the first
 pub slots_text_next : (labels : List (List ℕ)) (xs : List Bounds) (i : ℕ) (label : List ℕ) (x : Bounds) → slice_get labels i ≡ Some label → slice_get xs i ≡ Some x
@@ -28,22 +14,6 @@ pub slots_text_next : (labels : List (List ℕ)) (xs : List Bounds) (i : ℕ) (l
 slots_text_next labels xs i label x first second =
     ap (λ (l : List (List ℕ)). slots_text l (drop i xs)) (drop_at labels i label first)
     ∙ ap (λ (l : List Bounds). slots_text (label ∷ drop (i + 1) labels) l) (drop_at xs i x second)
-
--- the labels from a slot on begin with its own
-pub labels_after_next : (named : List Slot) (i : ℕ) (slot : Slot) → i < length named → slot ≡ get_or named i slot
-    → labels_after (take i named) (drop i named) ≡ label_of slot.name (count_of_name (take i named) slot.name) ∷ labels_after (take (i + 1) named) (drop (i + 1) named)
-labels_after_next named i slot within is =
-    let at : slice_get named i ≡ Some slot = slice_get_read named (length named) i slot refl within is in
-    ap (λ (rest : List Slot). labels_after (take i named) rest) (drop_at named i slot at)
-    ∙ ap (λ (before : List Slot). label_of slot.name (count_of_name (take i named) slot.name) ∷ labels_after before (drop (i + 1) named)) (sym (take_at named i slot at))
-
-length-labels_after : (before rest : List Slot) → length (labels_after before rest) ≡ length rest
-length-labels_after before [] = refl
-length-labels_after before (slot ∷ rest) = ap suc (length-labels_after (before ++ slot ∷ []) rest)
-
-pub length-labels_of : (slots : List Slot) → length (labels_of slots) ≡ length slots
-length-labels_of [] = refl
-length-labels_of (returned ∷ named) = ap suc (length-labels_after [] named)
 
 pub fits_each_length : (slots : List Slot) (xs : List Bounds) → FitsEach slots xs → length xs ≡ length slots
 fits_each_length [] [] fits = refl

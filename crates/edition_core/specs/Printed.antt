@@ -21,7 +21,7 @@ use Rattle.constraint_sys.specs.declared.unknown.Unknown.TheVariants.{Point, Glo
 use Rattle.constraint_sys.specs.declared.value.Value.{Value}
 use Rattle.constraint_sys.specs.declared.value.Value.TheVariants.{State, Number}
 use Rattle.constraint_sys.specs.Table.{TableValue, value_at, unknown_cmp}
-use Rattle.edition_core.specs.Labels.{labels_of}
+use Rattle.gob_tree.specs.Labels.{labels_of}
 
 -- `[lo,hi]`
 abbrev pub interval_text : Bounds → List ℕ

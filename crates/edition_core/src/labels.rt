@@ -1,69 +1,21 @@
-//! What the slots of a function are called wherever they are shown.
-ghost use Rattle.std.specs.Prelude.{◌≡◌, ◌++◌, ◌+◌, ◌<◌, ◌^◌, ◌≤◌, [], IfOk, OnOk, length, map};
+//! The labels of the slots of all functions.
+ghost use Rattle.std.specs.Prelude.{◌≡◌, IfOk, map};
+ghost use Rattle.gob_tree.specs.Labels.{labels_of};
 ghost use Rattle.gob_tree.specs.declared.graph.FuncGraph.{FuncGraph as TheFunction};
-ghost use Rattle.edition_core.specs.Labels as spec;
 
-use crate::pieces::push_number;
-use gob_tree::{FuncGraph, Memory, Seq, Slot, Text};
+use gob_tree::{FuncGraph, Memory, Seq, Text, slot_labels};
 use std::alloc::Global;
-
-/// The label of each slot of a function: the name of the first slot that has it, and `x#k` for the
-/// k-th slot of a name `x` from the second on. Slot 0 and slots without a name have an empty label.
-/// `Memory` is want of memory.
-pub fn slot_labels(alloc: Global, slots: &[Slot]) -> Result<Seq<Text>, Memory>
-    ensures { IfOk result (λ labels. labels ≡ spec.labels_of slots.now) }
-{
-    let mut labels = Seq::new(alloc);
-    if !slots.is_empty() {
-        labels.push(Text::of(alloc, b"")?)?;
-        push_labels(alloc, &mut labels, &slots[1..])?;
-    }
-    Ok(labels)
-}
 
 /// The labels of the slots of each function.
 pub(crate) fn labels_of_functions(
     alloc: Global,
     funcs: &[FuncGraph],
 ) -> Result<Seq<Seq<Text>>, Memory>
-    ensures { IfOk result (λ all. all ≡ map (λ (f : TheFunction). spec.labels_of f.slots) funcs.now) }
+    ensures { IfOk result (λ all. all ≡ map (λ (f : TheFunction). labels_of f.slots) funcs.now) }
 {
     let mut all = Seq::new(alloc);
     for func in funcs {
         all.push(slot_labels(alloc, func.slots.as_slice())?)?;
     }
     Ok(all)
-}
-
-fn push_labels(alloc: Global, labels: &mut Seq<Text>, named: &[Slot]) -> Result<(), Memory>
-    ensures { OnOk result (labels.new ≡ labels.old ++ spec.labels_after [] named.now) }
-{
-    for (i, slot) in named.iter().enumerate() {
-        let before = count_of_name(&named[..i], &slot.name);
-        labels.push(label(alloc, &slot.name, before)?)?;
-    }
-    Ok(())
-}
-
-fn count_of_name(slots: &[Slot], name: &Text) -> usize
-    ensures value { result ≡ spec.count_of_name slots.now name.now }
-    ensures bounded { result ≤ length slots.now }
-{
-    slots
-        .iter()
-        .filter(|slot| slot.name.as_bytes() == name.as_bytes())
-        .count()
-}
-
-fn label(alloc: Global, name: &Text, before: usize) -> Result<Text, Memory>
-    requires { before < 2 ^ 63 }
-    ensures { IfOk result (λ text. text ≡ spec.label_of name.now before) }
-{
-    if name.is_empty() || before == 0 {
-        return name.copy(alloc);
-    }
-    let mut bytes = Vec::from_slice(alloc, name.as_bytes())?;
-    bytes.extend_from_slice(b"#")?;
-    push_number(&mut bytes, before + 1)?;
-    Text::of(alloc, bytes.as_slice())
 }

@@ -5,8 +5,4 @@ mod labels;
 mod pieces;
 mod printed;
 
-pub use labels::slot_labels;
 pub use printed::print_table;
-
-#[cfg(test)]
-mod tests;

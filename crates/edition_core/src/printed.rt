@@ -4,7 +4,7 @@ ghost use Rattle.gob_tree.specs.Formed.{IsFormed, IsFormedFunction};
 ghost use Rattle.gob_tree.specs.declared.graph.FuncGraph.{FuncGraph as TheFunction};
 ghost use Rattle.state_dom.specs.StateValue.{HasShape, is_reached, slots_of, locks_of};
 ghost use Rattle.constraint_sys.specs.Sound.{IsShaped, IsShapedEntry};
-ghost use Rattle.edition_core.specs.Labels.{labels_of};
+ghost use Rattle.gob_tree.specs.Labels.{labels_of};
 ghost use Rattle.edition_core.specs.Printed as spec;
 
 use crate::labels::labels_of_functions;

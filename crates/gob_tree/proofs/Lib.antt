@@ -1,5 +1,6 @@
 pub mod Folds
 pub mod Induct
+pub mod LabelReadings
 pub mod NamedLemmas
 pub mod StmtFolds
 pub mod WellMadeProofs

@@ -1,6 +1,6 @@
 use crate::{
     Action, BinOp, Boxed, Edge, Expr, FuncGraph, FuncKind, GlobalDecl, Memory, Place, Placed,
-    Program, Seq, Slot, Stmt, Target, Text, Width, same_function,
+    Program, Seq, Slot, Stmt, Target, Text, Width, same_function, slot_labels,
 };
 use std::alloc::Global;
 use std::test::Fail;
@@ -181,5 +181,29 @@ fn widths_and_the_order_of_edges_count(rt: HostRuntime) -> Result<(), Fail> {
     assert!(rt; !same_function(&a, 0, &b, 0));
     assert!(rt; !same_function(&a, 1, &b, 0));
     assert!(rt; same_function(&b, 0, &b, 1), "two functions of one name");
+    Ok(())
+}
+
+fn named_slot(alloc: Global, name: &[u8]) -> Result<Slot, Fail> {
+    Ok(Slot {
+        name: Text::of(alloc, name)?,
+        width: Width::W32,
+    })
+}
+
+#[test]
+fn a_second_slot_of_a_name_is_numbered(rt: HostRuntime) -> Result<(), Fail> {
+    let alloc = rt.alloc();
+    let mut slots = Vec::new(alloc);
+    for name in [b"".as_slice(), b"x", b"y", b"x", b"", b"x"] {
+        slots.push(named_slot(alloc, name)?)?;
+    }
+    let labels = slot_labels(alloc, slots.as_slice())?;
+    let mut row = Vec::new(alloc);
+    for label in labels.as_slice() {
+        row.extend_from_slice(label.as_bytes())?;
+        row.push(b';')?;
+    }
+    assert_eq!(rt; row.as_slice(), b";x;y;x#2;;x#3;".as_slice());
     Ok(())
 }

@@ -1,6 +1,6 @@
 use Rattle.std.proofs.Common.{◌≡◌, ◌++◌, map, drop}
 use Rattle.gob_tree.specs.declared.graph.FuncGraph.{FuncGraph}
-use Rattle.edition_core.specs.Labels.{labels_of}
+use Rattle.gob_tree.specs.Labels.{labels_of}
 use Rattle.edition_core.proofs.labels.labels_of_functions.Given as goal
 
 abbrev pub invariant-loop-func : goal.invariant-loop-func

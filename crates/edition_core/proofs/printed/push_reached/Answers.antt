@@ -1,5 +1,5 @@
 use Rattle.std.proofs.Common.{◌∙◌, ap, sym, length, arith, List, ℕ}
-use Rattle.edition_core.proofs.Readings.{length-labels_of}
+use Rattle.gob_tree.proofs.LabelReadings.{length-labels_of}
 use Rattle.edition_core.proofs.printed.push_reached.Goals as goal
 
 pub push_slots-requires-clause-few : goal.push_slots-requires-clause-few

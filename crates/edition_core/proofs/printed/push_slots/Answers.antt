@@ -2,7 +2,8 @@ use Rattle.std.proofs.Common.{refl, arith, drop, length, ◌+◌}
 use Rattle.std.proofs.lemmas.Option.{slice_get_read}
 use Rattle.state_dom.specs.StateValue.{slots_of}
 use Rattle.edition_core.specs.Printed.{slot_text, slots_text}
-use Rattle.edition_core.proofs.Readings.{slots_text_next, grown}
+use Rattle.edition_core.proofs.Readings.{slots_text_next}
+use Rattle.gob_tree.proofs.LabelReadings.{grown}
 use Rattle.edition_core.proofs.printed.push_slots.Goals as goal
 
 pub loop-i-preserved : goal.loop-i-preserved

@@ -1,7 +1,7 @@
 use Rattle.std.proofs.Common.{◌∙◌, ◌∷◌, [], ap, sym, arith, List, ℕ, drop, take, ◌+◌}
-use Rattle.edition_core.specs.Labels.{labels_after, label_of}
-use Rattle.edition_core.proofs.Readings.{labels_after_next, grown}
-use Rattle.edition_core.proofs.labels.push_labels.Goals as goal
+use Rattle.gob_tree.specs.Labels.{labels_after, label_of}
+use Rattle.gob_tree.proofs.LabelReadings.{labels_after_next, grown}
+use Rattle.gob_tree.proofs.labels.push_labels.Goals as goal
 
 pub loop-i-preserved : goal.loop-i-preserved
 loop-i-preserved c =

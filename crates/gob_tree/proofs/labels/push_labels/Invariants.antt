@@ -1,6 +1,6 @@
 use Rattle.std.proofs.Common.{◌≡◌, ◌++◌, [], take, drop}
-use Rattle.edition_core.specs.Labels as spec
-use Rattle.edition_core.proofs.labels.push_labels.Given as goal
+use Rattle.gob_tree.specs.Labels as spec
+use Rattle.gob_tree.proofs.labels.push_labels.Given as goal
 
 abbrev pub invariant-loop-i : goal.invariant-loop-i
 invariant-loop-i l = l.labels ++ spec.labels_after (take l.i l.named) (drop l.i l.named) ≡ l.fn.labels ++ spec.labels_after [] l.named
