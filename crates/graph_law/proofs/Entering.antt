@@ -1,25 +1,22 @@
 -- A new frame stands.
-use Rattle.std.proofs.Common.{◌≡◌, refl, sym, ap, ◌∙◌, subst, ⊎_elim, inl, inr, ℕ, zero, suc, ◌+◌, ◌<◌, ℤ, pos, Bool, true, false, List, [], ◌∷◌, ◌++◌, length, map, take, Option, None, Some, arith, length-append}
-use Rattle.std.specs.Prelude.{if◌then◌else◌, ◌&&◌, ◌⊎◌, nat_eq, slice_index_or}
+use Rattle.std.proofs.Common.{◌≡◌, refl, sym, ap, ◌∙◌, subst, ⊎_elim, inl, inr, ℕ, zero, suc, ◌+◌, ℤ, pos, Bool, true, false, List, [], ◌∷◌, ◌++◌, length, map, take, Option, None, Some, arith}
+use Rattle.std.specs.Prelude.{if◌then◌else◌, ◌&&◌, ◌⊎◌, nat_eq}
 use Rattle.std.specs.List.{Contains}
-use Rattle.gob_tree.specs.declared.stmt.Placed.{Placed}
 use Rattle.gob_tree.specs.declared.unit.Slot.{Slot}
 use Rattle.gob_tree.specs.declared.unit.Function.{Function}
-use Rattle.gob_tree.specs.declared.graph.Action.{Action}
 use Rattle.gob_tree.specs.declared.graph.Action.TheVariants.{Guard, Skip}
-use Rattle.gob_tree.specs.declared.graph.Edge.{Edge}
 use Rattle.c_meaning.specs.declared.config.Todo.{Todo}
 use Rattle.c_meaning.specs.Demand.{conversion}
 use Rattle.c_meaning.specs.Config.{first_values, param_values}
 use Rattle.c_meaning.specs.Tree.{statements, unrolling}
-use Rattle.c_meaning.specs.Graph.{MarkedEdge, FlowGraph, temporary, lowering_of, sequence, first_flow, body_route, flow_of, graph_slots}
+use Rattle.c_meaning.specs.Graph.{MarkedEdge, temporary, lowering_of, first_flow, body_route, flow_of, graph_slots}
 use Rattle.c_meaning.specs.GraphStep.{local_slots}
-use Rattle.c_meaning.specs.Walk.{Moment, Settled, with_edge, settled_or, settled_within, settled_from, silent_from, silent_slots, first_or, moment_after, begun_of, StandsInFront, StandsAt}
+use Rattle.c_meaning.specs.Walk.{Moment, Settled, with_edge, settled_or, settled_within, settled_from, silent_from, silent_slots, first_or, moment_after, StandsInFront}
 use Rattle.c_meaning.proofs.Settling.{silent_edges_run_out}
 use Rattle.graph_law.specs.Leaving.{leaving, IsOneWay}
 use Rattle.graph_law.specs.Lying.{Lies, nothing}
 use Rattle.graph_law.specs.Laying.{HasEdge}
-use Rattle.graph_law.specs.Entering.{entered, IsEntered, NewFramesStand}
+use Rattle.graph_law.specs.Entering.{entered, NewFramesStand}
 use Rattle.graph_law.proofs.Lying.{bodies_lie}
 use Rattle.graph_law.proofs.Beginning.{things_begin}
 use Rattle.graph_law.proofs.Statements.{one_way_out}

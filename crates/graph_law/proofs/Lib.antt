@@ -1,7 +1,11 @@
 pub mod Entering
 pub mod Beginning
+pub mod Decoding
 pub mod Extending
+pub mod FineHoists
+pub mod FineStmts
 pub mod Fitting
+pub mod Forming
 pub mod Guards
 pub mod Hoists
 pub mod Laying
@@ -13,3 +17,4 @@ pub mod Settling
 pub mod Starting
 pub mod Statements
 pub mod Steps
+pub mod Widening

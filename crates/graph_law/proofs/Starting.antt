@@ -1,6 +1,6 @@
 -- The first configurations stand.
-use Rattle.std.proofs.Common.{◌≡◌, refl, sym, ap, ◌∙◌, subst, ℕ, ◌<◌, ℤ, pos, true, false, List, [], ◌∷◌, length, map, take, Option, None, Some, arith}
-use Rattle.std.specs.Prelude.{slice_get, slice_index_or, All, IsSomeAnd, IsTrue}
+use Rattle.std.proofs.Common.{◌≡◌, refl, sym, ap, ◌∙◌, subst, ℕ, ℤ, List, [], ◌∷◌, take, Option, None, Some}
+use Rattle.std.specs.Prelude.{slice_get, slice_index_or, IsSomeAnd, IsTrue}
 use Rattle.std.specs.Option.{option_map, option_map_or, option_and_then}
 use Rattle.std.proofs.lemmas.Option.{slice_get-map, slice_get_within, get_or_from_slice_get}
 use Rattle.gob_tree.specs.WellMade.{IsWellMade, IsWellMadeFunction, ends_in_return}
@@ -8,13 +8,12 @@ use Rattle.gob_tree.specs.declared.stmt.Placed.{Placed}
 use Rattle.gob_tree.specs.declared.unit.Function.{Function}
 use Rattle.gob_tree.specs.declared.unit.Unit.{Unit as TranslationUnit}
 use Rattle.gob_tree.specs.declared.graph.FuncGraph.{FuncGraph}
-use Rattle.c_meaning.specs.Config.{Config}
 use Rattle.c_meaning.specs.Tree as Tree
 use Rattle.c_meaning.specs.Tree.{first_tree}
 use Rattle.c_meaning.specs.Graph.{MarkedEdge, MarkedProgram, marked_of, program_of, graph_of, flow_of, graph_slots}
 use Rattle.c_meaning.specs.GraphStep as Graph
 use Rattle.c_meaning.specs.GraphStep.{first_graph}
-use Rattle.c_meaning.specs.Walk.{Moment, Walked, graph_run, after_choices, marked_edges_at, settled_from, StandsInFront, StandsFrame, Stands}
+use Rattle.c_meaning.specs.Walk.{Moment, Walked, after_choices, marked_edges_at, settled_from, StandsInFront, StandsFrame}
 use Rattle.graph_law.specs.Settling.{settled_frame}
 use Rattle.graph_law.specs.Entering.{entered}
 use Rattle.graph_law.specs.Starting.{FirstStands}

@@ -1,5 +1,6 @@
 pub mod Entering
 pub mod Fitting
+pub mod Forming
 pub mod Laying
 pub mod Leaving
 pub mod Lying

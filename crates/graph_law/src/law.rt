@@ -1,5 +1,6 @@
 ghost use Rattle.graph_law.specs.Entering.{NewFramesStand};
 ghost use Rattle.graph_law.specs.Fitting.{GlobalsFit};
+ghost use Rattle.graph_law.specs.Forming.{ProgramsAreFormed, WidthsAreDeclared, EdgesAreFew};
 ghost use Rattle.graph_law.specs.Laying.{
   StatementsAreLaid,
   BranchesLie,
@@ -93,4 +94,14 @@ pub fn new_frames_stand()
 /// the trees.
 pub fn first_stands()
     ensures { FirstStands }
+{}
+
+/// The program of a well-made unit whose sizes are within the limits is formed: its numbers are in
+/// range, no edge leads to an entry, calls have the arguments that are wanted, and expressions on
+/// edges have no inputs. A slot that gets a global's value or a call's result has its declared width;
+/// and a graph has at most two edges a node.
+pub fn programs_are_formed()
+    ensures formed { ProgramsAreFormed }
+    ensures widths { WidthsAreDeclared }
+    ensures edges { EdgesAreFew }
 {}

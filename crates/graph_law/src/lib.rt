@@ -5,6 +5,6 @@ mod law;
 
 pub use law::{
     bodies_lie, branches_lie, first_stands, globals_fit, moves_are_runs, new_frames_stand,
-    one_guard_at_most, one_way_out, silent_edges_are_moves, silent_edges_are_quiet,
-    statements_are_laid, things_begin, unrolling_lies,
+    one_guard_at_most, one_way_out, programs_are_formed, silent_edges_are_moves,
+    silent_edges_are_quiet, statements_are_laid, things_begin, unrolling_lies,
 };
