@@ -1,7 +1,11 @@
+pub mod Closing
 pub mod Descent
 pub mod Expressions
+pub mod Fronts
+pub mod OneFault
 pub mod Opening
 pub mod Passing
+pub mod Quiet
 pub mod Steps
 pub mod Unique
 pub mod UniqueStatement

@@ -17,7 +17,6 @@ use Rattle.c_parse.specs.declared.raw.stmt.RawReturn.TheVariants.{Plain, Null, V
 use Rattle.c_parse.specs.declared.raw.stmt.RawStmt.{RawStmt}
 use Rattle.c_parse.specs.declared.raw.stmt.RawStmt.TheVariants as stmts
 use Rattle.c_parse.specs.declared.raw.stmt.RawPlaced.{RawPlaced}
-use Rattle.c_parse.specs.declared.raw.unit.RawParam.{RawParam}
 use Rattle.c_parse.specs.declared.raw.unit.RawHead.{RawHead}
 use Rattle.c_parse.specs.declared.raw.unit.RawItem.{RawItem}
 use Rattle.c_parse.specs.declared.raw.unit.RawItem.TheVariants as tops

@@ -1,7 +1,7 @@
 -- What may still come while a unit is read from left to right: a stack of parts, of which a token takes
 -- off or opens the first. The empty stack stands for the items of the unit. The laws of proofs/ tie it to
 -- the grammar, so no public promise speaks of it.
-use Rattle.std.specs.Prelude.{◌≡◌, ℕ, zero, suc, Bool, true, false, ◌&&◌, if◌then◌else◌, List, [], ◌∷◌, ◌++◌, length, Option, Some, None}
+use Rattle.std.specs.Prelude.{◌≡◌, ℕ, zero, suc, Bool, true, false, ◌&&◌, List, [], ◌∷◌, ◌++◌, length, Option, Some, None}
 use Rattle.c_parse.specs.declared.terminal.Terminal.{Terminal}
 use Rattle.c_parse.specs.declared.terminal.Kind.{Kind}
 use Rattle.c_parse.specs.declared.terminal.Kind.TheVariants as kinds

@@ -1,5 +1,5 @@
 -- The tokens of a text as the grammar sees them.
-use Rattle.std.specs.Prelude.{ℕ, ◌-◌, ◌==◌, ℤ, pos, int_lt, Bool, true, false, ◌||◌, if◌then◌else◌, List, [], ◌∷◌, map, length, codes, slice_range, slice_index, Option, Some, None}
+use Rattle.std.specs.Prelude.{ℕ, ◌-◌, ◌==◌, ℤ, pos, int_lt, Bool, ◌||◌, if◌then◌else◌, List, [], ◌∷◌, map, length, codes, slice_range, slice_index, Option, Some, None}
 use Rattle.std.specs.List.{list_any}
 use Rattle.std.specs.Str.{bytes_eq}
 use Rattle.gob_tree.specs.declared.expr.BinOp.TheVariants as ops

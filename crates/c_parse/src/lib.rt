@@ -4,6 +4,7 @@
 mod expr_text;
 mod expression;
 mod fault;
+mod fault_of;
 mod law;
 mod raw;
 mod stop;
@@ -12,7 +13,7 @@ mod terminals;
 
 pub use expr_text::{one_expression, parse_expr};
 pub use fault::{ExprFault, ParseFault};
-pub use law::one_unit;
+pub use law::{one_fault, one_unit};
 pub use raw::{
     RawExpr, RawHead, RawItem, RawName, RawParam, RawPlaced, RawReturn, RawStmt, RawUnit,
 };

@@ -1,4 +1,4 @@
-use Rattle.std.proofs.Common.{sym, ◌∙◌, arith}
+use Rattle.std.proofs.Common.{◌∙◌, arith}
 use Rattle.c_parse.proofs.Expressions.{no_other, none_there, not_both}
 use Rattle.c_parse.proofs.expr_text.expr_of.Goals as goal
 

@@ -1,4 +1,4 @@
-use Rattle.std.proofs.Common.{◌≡◌, ◌≤◌, ◌+◌, ◌*◌, List, ◌∷◌, ◌++◌, length}
+use Rattle.std.proofs.Common.{◌≤◌, ◌+◌, ◌*◌, List, length}
 use Rattle.c_parse.specs.declared.terminal.Terminal.{Terminal}
 use Rattle.c_parse.specs.declared.raw.expr.RawExpr.{RawExpr}
 use Rattle.c_parse.specs.Machine as machine
