@@ -1,5 +1,5 @@
 -- Expressions of whole texts: one at most, and none where the descent gives another or stops.
-use Rattle.std.proofs.Common.{◌≡◌, refl, sym, ap, ◌∙◌, subst, ℕ, Bool, true, false, List, [], ◌∷◌, length, arith}
+use Rattle.std.proofs.Common.{◌≡◌, refl, sym, ap, ◌∙◌, subst, ℕ, Bool, true, false, ◌&&◌, List, [], ◌∷◌, length, arith}
 use Rattle.std.proofs.Common.{◌≢◌, IsErrOf, Err}
 use Rattle.c_lex.specs.Tokens.{AreTokens, IsFirstFault}
 use Rattle.c_lex.specs.declared.fault.LexFault.{LexFault}
@@ -12,7 +12,7 @@ use Rattle.c_parse.specs.declared.terminal.Terminal.{Terminal}
 use Rattle.c_parse.specs.declared.stop.Trouble.{Trouble}
 use Rattle.c_parse.specs.declared.stop.Stop.TheVariants.{At}
 use Rattle.c_parse.specs.Grammar.{Nesting, ReadsLevel, within}
-use Rattle.c_parse.specs.Machine.{Breaks, level, finished, troubled}
+use Rattle.c_parse.specs.Machine.{Breaks, level, run, Outcome, finished, troubled}
 use Rattle.c_parse.specs.Terminals.{terminals_of}
 use Rattle.c_parse.specs.Expression.{IsExpression, is_plain, expr_fault}
 use Rattle.c_parse.proofs.Passing.{passes_level}

@@ -1,11 +1,20 @@
 -- What the grammar reads as a part, the machine passes as that part.
 use Rattle.std.proofs.Common.{◌≡◌, refl, sym, ap, ◌∙◌, ℕ, zero, suc, Bool, true, false, List, [], ◌∷◌, ◌++◌, length, Option, Some, None, append_assoc}
+use Rattle.gob_tree.specs.declared.expr.Width.{Width}
+use Rattle.gob_tree.specs.declared.place.Place.{Place}
 use Rattle.c_parse.specs.declared.terminal.Terminal.{Terminal}
 use Rattle.c_parse.specs.declared.terminal.Kind.{Kind}
 use Rattle.c_parse.specs.declared.terminal.Kind.TheVariants as kinds
+use Rattle.c_parse.specs.declared.stop.Sign.{Sign}
 use Rattle.c_parse.specs.declared.stop.Sign.TheVariants as signs
-use Rattle.c_parse.specs.declared.stop.Trouble.TheVariants.{Deep}
+use Rattle.c_parse.specs.declared.stop.Trouble.TheVariants.{Bad, Deep}
 use Rattle.c_parse.specs.declared.raw.expr.RawName.{RawName}
+use Rattle.c_parse.specs.declared.raw.expr.RawExpr.{RawExpr}
+use Rattle.c_parse.specs.declared.raw.stmt.RawReturn.{RawReturn}
+use Rattle.c_parse.specs.declared.raw.stmt.RawStmt.{RawStmt}
+use Rattle.c_parse.specs.declared.raw.stmt.RawPlaced.{RawPlaced}
+use Rattle.c_parse.specs.declared.raw.unit.RawHead.{RawHead}
+use Rattle.c_parse.specs.declared.raw.unit.RawItem.{RawItem}
 use Rattle.c_parse.specs.Grammar as grammar
 use Rattle.c_parse.specs.Grammar.{Nesting, counted, entered, settled, ended, within, operator, top, begins_with, is_open_paren, is_equals, is_int, is_else, EndsChain, Next, ReadsName, ReadsOperator, ReadsLevel, ReadsChain, ReadsCall, ReadsArgs, ReadsMoreArgs, ReadsWhole, ReadsCondition, ReadsInitial, ReadsLongTail, ReadsType, ReadsLocals, ReadsMoreLocals, ReadsNumbers, ReadsThreads, ReadsMoreThreads, ReadsDecl, ReadsAfterName, ReadsHandle, ReadsSimple, ReadsValue, ReadsFirst, ReadsTest, ReadsLast, ReadsDoEnd, ReadsBare, ReadsStmt, ReadsElse, ReadsItems, ReadsLiteral, ReadsGlobals, ReadsMoreGlobals, ReadsAfterHead, ReadsParam, ReadsParamName, ReadsMoreParams, ReadsParams, ReadsThreadParam, ReadsThreadVoid, ReadsThreadName, ReadsVoided, ReadsNamed, ReadsTyped, ReadsMutexName, ReadsOuter, ReadsItem, ReadsUnit}
 use Rattle.c_parse.specs.Machine.{Effect, keeps, counts, ends_arg, enters, settles, effect, Part, Move, takes, skips, stops, Outcome, finished, troubled, sign, ident, settle, level, chain, call, args, more_args, whole, condition, initial, long_tail, type, locals, more_locals, numbers, threads, more_threads, decl, after_name, handle, simple, value, first, test, last, do_end, bare, stmt, otherwise, items, literal, number, globals, more_globals, after_head, param, param_name, more_params, params, thread_param, thread_void, thread_name, voided, named, typed, mutex_name, outer, unit_item, before, entering, move, moved, behind, settled_next, next, run, go_on, unless_over, is_sign, kind_of, Passes}

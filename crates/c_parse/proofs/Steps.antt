@@ -1,8 +1,9 @@
 -- A token in front of a row that is read makes a part that is read. The law of the first bad token, which the
 -- faults of a parser of units will rest on, begins here.
-use Rattle.std.proofs.Common.{◌≡◌, refl, sym, ap, ℕ, zero, suc, Bool, true, false, ℤ, subst, List, [], ◌∷◌, ◌++◌, Option, Some, None}
+use Rattle.std.proofs.Common.{◌≡◌, refl, sym, ap, ◌∙◌, ℕ, zero, suc, Bool, true, false, ℤ, subst, ◌&&◌, List, [], ◌∷◌, ◌++◌, length, Option, Some, None, append_assoc}
 use Rattle.gob_tree.specs.declared.expr.Width.{Width}
 use Rattle.gob_tree.specs.declared.expr.BinOp.{BinOp}
+use Rattle.gob_tree.specs.declared.expr.BinOp.TheVariants as ops
 use Rattle.c_parse.specs.declared.raw.expr.RawExpr.TheVariants as exprs
 use Rattle.gob_tree.specs.declared.place.Place.{Place}
 use Rattle.c_parse.specs.declared.terminal.Terminal.{Terminal}
@@ -10,6 +11,7 @@ use Rattle.c_parse.specs.declared.terminal.Kind.{Kind}
 use Rattle.c_parse.specs.declared.terminal.Kind.TheVariants as kinds
 use Rattle.c_parse.specs.declared.stop.Sign.{Sign}
 use Rattle.c_parse.specs.declared.stop.Sign.TheVariants as signs
+use Rattle.c_parse.specs.declared.stop.Trouble.TheVariants.{Bad, Deep}
 use Rattle.c_parse.specs.declared.raw.expr.RawName.{RawName}
 use Rattle.c_parse.specs.declared.raw.expr.RawExpr.{RawExpr}
 use Rattle.c_parse.specs.declared.raw.stmt.RawReturn.{RawReturn}

@@ -1,5 +1,5 @@
 -- A list of tokens is read as an expression in one way.
-use Rattle.std.proofs.Common.{◌≡◌, refl, sym, ap, ◌∙◌, subst, ℕ, Bool, true, false, List, [], ◌∷◌, Option, Some, None}
+use Rattle.std.proofs.Common.{◌≡◌, refl, sym, ap, ◌∙◌, subst, ℕ, suc, Bool, true, false, List, [], ◌∷◌, Option, Some, None}
 use Rattle.c_parse.specs.declared.terminal.Terminal.{Terminal}
 use Rattle.c_parse.specs.declared.terminal.Kind.{Kind}
 use Rattle.c_parse.specs.declared.terminal.Kind.TheVariants as kinds
