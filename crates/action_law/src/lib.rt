@@ -1,0 +1,7 @@
+//! The law of one action: what the analysis makes of an edge is true of what the edge does. Each
+//! function is its contract alone and does nothing.
+#![tactic(auto)]
+
+mod law;
+
+pub use law::others_stay_described;
