@@ -4,4 +4,7 @@
 
 mod law;
 
-pub use law::others_stay_described;
+pub use law::{
+    calls_enter_described, edges_lead_to_described, others_stay_described,
+    returns_lead_to_described,
+};
