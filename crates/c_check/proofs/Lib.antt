@@ -1,0 +1,2 @@
+pub mod RawFolds
+pub mod RawLevels

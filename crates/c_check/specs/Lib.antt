@@ -1,0 +1,6 @@
+pub mod Bodies
+pub mod Examples
+pub mod Faults
+pub mod Names
+pub mod Rules
+pub mod Units

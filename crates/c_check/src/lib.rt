@@ -1,0 +1,11 @@
+//! Names, kinds and limits: from trees with names as they are written to the unit that everything
+//! else stands on, or the first fault.
+#![tactic(auto)]
+
+mod examples;
+mod fault;
+mod meaning;
+
+pub use examples::limits_by_hand;
+pub use fault::{FrontFault, FrontKind};
+pub use meaning::{Callee, Declared, Meaning, Signature};
