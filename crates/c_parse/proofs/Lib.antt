@@ -1,4 +1,5 @@
 pub mod Closing
+pub mod DeclarationExits
 pub mod Descent
 pub mod Expressions
 pub mod Fronts
@@ -6,6 +7,9 @@ pub mod OneFault
 pub mod Opening
 pub mod Passing
 pub mod Quiet
+pub mod Rows
+pub mod Shorter
+pub mod SimpleExits
 pub mod Steps
 pub mod Unique
 pub mod UniqueStatement

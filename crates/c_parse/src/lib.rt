@@ -1,12 +1,14 @@
 //! The grammar of GobPie's C profile: tokens to trees with names as written, or the first fault.
 #![tactic(auto)]
 
+mod declaration;
 mod expr_text;
 mod expression;
 mod fault;
 mod fault_of;
 mod law;
 mod raw;
+mod simple;
 mod stop;
 mod terminal;
 mod terminals;
