@@ -1,5 +1,5 @@
 -- A reading takes tokens off.
-use Rattle.std.proofs.Common.{◌<◌, ◌≤◌, ◌+◌, arith, ◌≡◌, ℕ, Bool, ℤ, List, [], ◌∷◌, length, Option}
+use Rattle.std.proofs.Common.{◌<◌, ◌≤◌, arith, ℕ, Bool, ℤ, List, length, Option}
 use Rattle.gob_tree.specs.declared.expr.Width.{Width}
 use Rattle.gob_tree.specs.declared.place.Place.{Place}
 use Rattle.c_parse.specs.declared.terminal.Terminal.{Terminal}

@@ -12,8 +12,8 @@ use Rattle.c_parse.specs.declared.raw.unit.RawItem.{RawItem}
 use Rattle.c_parse.specs.declared.stop.Sign.TheVariants as signs
 use Rattle.c_parse.specs.declared.terminal.Kind.{Kind}
 use Rattle.c_parse.specs.declared.terminal.Terminal.{Terminal}
-use Rattle.c_parse.specs.Grammar.{Next, ReadsName, ReadsInitial, ReadsMoreLocals, ReadsNumbers, ReadsMoreThreads, ReadsThreads, ReadsDecl, ReadsSimple, ReadsBare, ReadsItems, ReadsGlobals, ReadsMoreGlobals, ReadsParam, ReadsMoreParams, ReadsNamed, ReadsTyped, ReadsOuter, ReadsItem, declared, within}
-use Rattle.c_parse.specs.Machine.{Part, sign, ident, condition, stmt, otherwise, do_end, first, test, last, globals, more_globals, param, more_params, items, run}
+use Rattle.c_parse.specs.Grammar.{Next, ReadsName, ReadsInitial, ReadsMoreLocals, ReadsNumbers, ReadsMoreThreads, ReadsThreads, ReadsDecl, ReadsSimple, ReadsBare, ReadsGlobals, ReadsMoreGlobals, ReadsParam, ReadsMoreParams, ReadsNamed, ReadsTyped, ReadsOuter, ReadsItem, declared, within}
+use Rattle.c_parse.specs.Machine.{Part, sign, ident, condition, stmt, otherwise, do_end, first, test, last, globals, more_globals, param, more_params, run}
 
 -- what follows a word of a simple statement, and of a statement of depth d
 pub record SimpleAfter (k : Kind) (ts : List Terminal) (s : RawStmt) (rest : List Terminal) : Type 0 where

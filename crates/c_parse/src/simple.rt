@@ -48,10 +48,7 @@ pub(crate) fn whole(alloc: Global, tokens: &[Terminal]) -> Result<(RawExpr, &[Te
 
 /// `"(" expr ")"`
 #[tactic(auto, using(crate::specs::Grammar::condition, crate::proofs::SimpleExits::condition_0_stop, crate::proofs::SimpleExits::condition_1_stop, crate::proofs::SimpleExits::condition_2_stop))]
-pub(crate) fn condition(
-    alloc: Global,
-    tokens: &[Terminal],
-) -> Result<(RawExpr, &[Terminal]), Stop>
+pub(crate) fn condition(alloc: Global, tokens: &[Terminal]) -> Result<(RawExpr, &[Terminal]), Stop>
     ensures found { IfOk result (λ read. ReadsCondition (within 0) tokens.now read.0 read.1.now (within 0)) }
     ensures stop { IfErr result (Breaks machine.Part.condition (within 0) tokens.now) }
 {
