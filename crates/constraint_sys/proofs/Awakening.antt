@@ -1,6 +1,6 @@
 -- What a turn makes dirty: the nodes that it brings, and the readers of what rises.
 use Rattle.std.proofs.Common.{◌≡◌, ◌↔◌, ◌⊎◌, inl, inr, ℕ, zero, suc, ◌+◌, ◌<◌, ◌≤◌, Bool, true, false, cond, List, [], ◌∷◌, ◌++◌, Option, None, Some, length, refl, sym, ap, ◌∙◌, arith, subst, is_some, slice_get, true≢false}
-use Rattle.std.specs.Prelude.{All, Contains, IsSome}
+use Rattle.std.specs.Prelude.{Contains, IsSome}
 use Rattle.std.specs.List.{AllByRecursion, IsDistinct}
 use Rattle.std.specs.Map.{keys_of}
 use Rattle.std.proofs.lemmas.Bool.{cases_lt}
@@ -13,17 +13,16 @@ use Rattle.constraint_sys.specs.declared.unknown.Unknown.{Unknown}
 use Rattle.constraint_sys.specs.declared.unknown.Unknown.TheVariants.{Point, Global}
 use Rattle.constraint_sys.specs.declared.value.Effect.{Effect}
 use Rattle.constraint_sys.specs.declared.value.Value.{Value}
-use Rattle.constraint_sys.specs.Arising.{CanRaise, IsInner, IsNewAt, arisen_in_each}
+use Rattle.constraint_sys.specs.Arising.{IsInner, IsNewAt, arisen_in_each}
 use Rattle.constraint_sys.specs.Contribution.{read_by}
 use Rattle.constraint_sys.specs.PostSolution.{BoundsAt}
 use Rattle.constraint_sys.specs.Reading.{HasCommon}
-use Rattle.constraint_sys.specs.Sound.{IsShaped}
 use Rattle.constraint_sys.specs.Table.{TableValue, IsThere, unknown_eq, value_at}
-use Rattle.constraint_sys.specs.Turn.{IsBrought, ReadsRisen, raised_in_each}
+use Rattle.constraint_sys.specs.Turn.{IsBrought, ReadsRisen, Rose, raised_in_each}
 use Rattle.constraint_sys.proofs.Arisen.{there_after}
 use Rattle.constraint_sys.proofs.Entries.{unknown_eq-refl, unknown_eq-same}
 use Rattle.constraint_sys.proofs.Ordered.{Contains-push}
-use Rattle.constraint_sys.proofs.Rising.{IsUnbounded, Rose-exactly}
+use Rattle.constraint_sys.proofs.Rising.{IsUnbounded}
 use Rattle.constraint_sys.proofs.Turning.{some_from, there_from}
 
 -- ---- entries by their place
@@ -197,15 +196,9 @@ module _ (t : TableValue) (es : List Effect) (e : Effect) (r : Unknown) where
   )
 
 -- ---- the readers of what rises
-pub Awake-exactly : (p : Program) (t : TableValue) (es : List Effect) (rose : List Unknown) (q : Unknown) → IsShaped p t → All (CanRaise p t) es → ((r : Unknown) → Contains rose r ↔ IsUnbounded t es r)
-    → (IsThere t q × HasCommon rose (read_by p t q)) ↔ ReadsRisen p t (raised_in_each p t es) q
-Awake-exactly p t es rose q shaped can found = (
-  λ both. (
-    some_from (value_at t q) both.0,
-    (both.1.0, both.1.2, (Rose-exactly p t es shaped can both.1.0).0 ((found both.1.0).0 both.1.1)),
-  ),
-  λ both. (
-    there_from (value_at t q) both.0,
-    (both.1.0, (found both.1.0).1 ((Rose-exactly p t es shaped can both.1.0).1 both.1.2), both.1.1),
-  ),
+pub Awake-exactly : (p : Program) (t new : TableValue) (rose : List Unknown) (q : Unknown) → ((r : Unknown) → Contains rose r ↔ Rose t new r)
+    → (IsThere t q × HasCommon rose (read_by p t q)) ↔ ReadsRisen p t new q
+Awake-exactly p t new rose q found = (
+  λ both. (some_from (value_at t q) both.0, (both.1.0, both.1.2, (found both.1.0).0 both.1.1)),
+  λ both. (there_from (value_at t q) both.0, (both.1.0, (found both.1.0).1 both.1.2, both.1.1)),
 )

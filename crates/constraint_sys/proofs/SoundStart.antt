@@ -167,6 +167,9 @@ module _ (p : Program) (formed : IsFormed p) where
       (λ g decl at. initial_fits p formed g decl at))
       u v at
 
+  pub main_start_fits : IsShapedEntry p (main_start p) (main_start_value p)
+  main_start_fits = shaped (main_start p) (main_start_value p) start_value
+
   can_turn : (t : TableValue) (f : ℕ) (key : Key) (i : ℕ) → 0 < i → IsThere t (Point f key i) → CanTurn t (Point f key i)
   can_turn t f key zero inner there = absurd (omega arith)
   can_turn t f key (suc i) inner there = there

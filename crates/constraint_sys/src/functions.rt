@@ -5,7 +5,7 @@ ghost use Rattle.gob_tree.specs.Formed.{IsFormed, IsFormedFunction};
 use gob_tree::{FuncGraph, Program};
 
 /// A function of the program, by its number.
-pub(crate) fn function_at(program: &Program, func: u16) -> &FuncGraph
+pub fn function_at(program: &Program, func: u16) -> &FuncGraph
     requires formed { IsFormed program.now }
     requires in_range { func < length program.now.funcs }
     ensures is { slice_get program.now.funcs func ≡ Some result.now }

@@ -1,9 +1,10 @@
 //! The table to begin with.
 ghost use Rattle.std.specs.Prelude.{◌≡◌, ◌++◌, ◌≤◌, [], ◌∷◌, ℕ, IfOk, OnOk, None, length};
 ghost use Rattle.gob_tree.specs.Formed.{IsFormed};
-ghost use Rattle.interval_dom.specs.Bounds.{between};
 ghost use Rattle.state_dom.specs.StateValue.{start_of};
-ghost use Rattle.constraint_sys.specs.Table.{value_at, empty_key};
+ghost use Rattle.constraint_sys.specs.PostSolution.{initial_value, main_start_value};
+ghost use Rattle.constraint_sys.specs.Sound.{IsShapedEntry};
+ghost use Rattle.constraint_sys.specs.Table.{value_at, empty_key, main_start};
 ghost use Rattle.constraint_sys.specs.Turn.{initial_table, initial_dirty, initial_globals, bottoms, nodes_after_start};
 ghost use Rattle.constraint_sys.specs.declared.unknown.Unknown.TheVariants.{Point, Global as GlobalOf};
 ghost use Rattle.constraint_sys.specs.declared.value.Value.TheVariants.{State as StateOf};
@@ -88,19 +89,38 @@ fn add_globals(table: &mut Table, globals: &[GlobalDecl]) -> Result<(), Memory>
 {
     let count = globals.len() as u16;
     for g in 0..count {
-        let value = exactly(globals[g as usize].initial);
-        table.add(Unknown::Global(g), Value::Number(value))?;
+        let value = initial_value(&globals[g as usize]);
+        table.add(Unknown::Global(g), value)?;
     }
     Ok(())
 }
 
-fn exactly(n: i64) -> Interval
-    ensures { result ≡ between n n }
+/// The value with which a global begins: the interval of its initial value alone.
+pub fn initial_value(global: &GlobalDecl) -> Value
+    ensures { result ≡ initial_value global.now }
 {
-    match Interval::new(n, n) {
-        Some(one) => one,
+    match Interval::new(global.initial, global.initial) {
+        Some(one) => Value::Number(one),
         None => unreachable!(),
     }
+}
+
+/// `main`'s start.
+pub fn main_start(program: &Program) -> Unknown
+    ensures { result ≡ main_start program.now }
+{
+    point(program.main, 0)
+}
+
+/// The value with which `main` begins: each slot is 0 and no mutex is held. `Memory` is want of memory.
+pub fn main_start_value(alloc: Global, program: &Program) -> Result<Value, Memory>
+    requires { IsFormed program.now }
+    ensures value { IfOk result (λ v. v ≡ main_start_value program.now) }
+    ensures fits { IfOk result (λ v. IsShapedEntry program.now (main_start program.now) v) }
+{
+    let main = function_at(program, program.main);
+    let start = State::start(alloc, room(main))?;
+    Ok(Value::State(start))
 }
 
 /// A function's nodes but the start.

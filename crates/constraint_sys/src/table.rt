@@ -112,8 +112,8 @@ impl Table {
         }
     }
 
-    /// Whether the table has the unknown and bounds the value there.
-    pub(crate) fn bounds(&self, program: &Program, u: &Unknown, v: &Value) -> bool
+    /// Whether the table has the unknown and bounds the value there, which fits the unknown.
+    pub fn bounds(&self, program: &Program, u: &Unknown, v: &Value) -> bool
         requires shaped { IsShaped program.now self.now }
         requires fits { IsShapedEntry program.now u.now v.now }
         ensures { IsTrue result ↔ BoundsAt self.now u.now v.now }

@@ -7,21 +7,19 @@ ghost use Rattle.gob_tree.specs.declared.graph.Program.{Program as TheProgram};
 ghost use Rattle.state_dom.specs.ThresholdValues.{thresholds_of};
 ghost use Rattle.constraint_sys.specs.Arising.{CanRaise, IsInner, IsLike, IsNewAt, arisen_in_each};
 ghost use Rattle.constraint_sys.specs.Index.{IsSystemOf};
-ghost use Rattle.constraint_sys.specs.PostSolution.{BoundsAt};
 ghost use Rattle.constraint_sys.specs.Sound.{IsShaped, CanTurn};
 ghost use Rattle.constraint_sys.specs.Table.{unknown_eq};
-ghost use Rattle.constraint_sys.specs.Turn.{IsAscending, IsBrought, ReadsRisen, Turns, raised_in_each, raises_of};
+ghost use Rattle.constraint_sys.specs.Turn.{IsAscending, IsBrought, ReadsRisen, Turns, raised_in_each, raises_of, table_after};
 ghost use Rattle.constraint_sys.specs.declared.unknown.Unknown.{Unknown as TheUnknown};
-ghost use Rattle.constraint_sys.specs.declared.value.Effect.{Effect as TheEffect};
 
 use crate::arise::arise_each;
 use crate::dirty::Dirty;
-use crate::edges::contribution_to;
+use crate::plan::{TurnPlan, plan_turn, risen};
 use crate::readers::readers;
 use crate::system::System;
 use crate::table::Table;
 use crate::unknown::Unknown;
-use crate::value::{Effect, Value};
+use crate::value::Effect;
 use gob_tree::{Memory, Program};
 use state_dom::Thresholds;
 use std::alloc::Global;
@@ -47,76 +45,60 @@ pub fn turn(
     ensures same_table { OnErr result (table.new ≡ table.old) }
     ensures same_dirty { OnErr result (dirty.new ≡ dirty.old) }
 {
-    let raises = raises(alloc, program, system, table, u)?;
-    let list = raises.as_slice();
-    let awake = awakened(alloc, program, system, table, list)?;
-    begin(alloc, program, table, dirty, &u, list, awake)?;
+    let plan = plan_turn(alloc, program, system, table, &u)?;
+    let awake = awakened(alloc, program, system, table, &u, &plan)?;
+    turn_by(alloc, program, system, table, dirty, &u, &plan, awake)
+}
+
+/// The same turn by a caller who knows the readers: `plan` is the turn's, and `awake` are points that
+/// read an unknown that rises by it, among them each one that isn't dirty already. It takes no look
+/// over the table. `Memory` is want of memory, and leaves the table and the dirty points as they were.
+pub fn turn_by(
+    alloc: Global,
+    program: &Program,
+    system: &System,
+    table: &mut Table,
+    dirty: &mut Dirty,
+    u: &Unknown,
+    plan: &TurnPlan,
+    awake: Vec<Unknown>,
+) -> Result<(), Memory>
+    requires formed { IsFormed program.now }
+    requires system { IsSystemOf program.now system.now }
+    requires shaped { IsShaped program.now table.old }
+    requires there { CanTurn table.old u.now }
+    requires is_dirty { Contains dirty.old u.now }
+    requires plan { plan.now.raises ≡ raises_of program.now table.old u.now }
+    requires readers { (q : TheUnknown) → Contains awake.items q → ReadsRisen program.now table.old (table_after program.now table.old u.now) q }
+    requires all_readers { (q : TheUnknown) → ReadsRisen program.now table.old (table_after program.now table.old u.now) q → Contains awake.items q ⊎ ((Contains dirty.old q) × (q ≢ u.now)) }
+    ensures turned { OnOk result (Turns program.now (record { table = table.old; dirty = dirty.old }) u.now (record { table = table.new; dirty = dirty.new })) }
+    ensures same_table { OnErr result (table.new ≡ table.old) }
+    ensures same_dirty { OnErr result (dirty.new ≡ dirty.old) }
+{
+    let list = plan.raises.as_slice();
+    begin(alloc, program, table, dirty, u, list, awake)?;
     raise_each(table, list, system.thresholds());
     Ok(())
 }
 
-/// What the turn raises, in order: the point by its contribution's value, then each effect's target.
-fn raises(
-    alloc: Global,
-    program: &Program,
-    system: &System,
-    table: &Table,
-    u: Unknown,
-) -> Result<Vec<Effect>, Memory>
-    requires formed { IsFormed program.now }
-    requires system { IsSystemOf program.now system.now }
-    requires shaped { IsShaped program.now table.now }
-    requires there { CanTurn table.now u }
-    ensures { IfOk result (λ es. es.items ≡ raises_of program.now table.now u) }
-{
-    let given = contribution_to(alloc, program, system, table, &u)?;
-    let mut raises = Vec::new(alloc);
-    raises.push(Effect {
-        target: u,
-        value: Value::State(given.value),
-    })?;
-    for e in given.effects.into_vec() {
-        raises.push(e)?;
-    }
-    Ok(raises)
-}
-
-/// The points that read what the raises make rise.
+/// The points that read what the plan makes rise.
 fn awakened(
     alloc: Global,
     program: &Program,
     system: &System,
     table: &Table,
-    raises: &[Effect],
+    u: &Unknown,
+    plan: &TurnPlan,
 ) -> Result<Vec<Unknown>, Memory>
     requires formed { IsFormed program.now }
     requires system { IsSystemOf program.now system.now }
     requires shaped { IsShaped program.now table.now }
-    requires fit { All (CanRaise program.now table.now) raises.now }
-    ensures { (q : TheUnknown) → IfOk result (λ us. Contains us.items q ↔ ReadsRisen program.now table.now (raised_in_each program.now table.now raises.now) q) }
+    requires there { CanTurn table.now u.now }
+    requires plan { plan.now.raises ≡ raises_of program.now table.now u.now }
+    ensures { (q : TheUnknown) → IfOk result (λ us. Contains us.items q ↔ ReadsRisen program.now table.now (table_after program.now table.now u.now) q) }
 {
-    let rose = risen(alloc, program, table, raises)?;
+    let rose = risen(alloc, program, table, u, plan)?;
     readers(alloc, program, system, table, rose.as_slice())
-}
-
-/// The targets that don't bound what raises them.
-fn risen(
-    alloc: Global,
-    program: &Program,
-    table: &Table,
-    raises: &[Effect],
-) -> Result<Vec<Unknown>, Memory>
-    requires shaped { IsShaped program.now table.now }
-    requires fit { All (CanRaise program.now table.now) raises.now }
-    ensures { (r : TheUnknown) → IfOk result (λ us. Contains us.items r ↔ ((e : TheEffect) × Contains raises.now e × (e.target ≡ r) × (BoundsAt table.now e.target e.value → ⊥))) }
-{
-    let mut rose = Vec::new(alloc);
-    for e in raises {
-        if !table.bounds(program, &e.target, &e.value) {
-            rose.push(e.target)?;
-        }
-    }
-    Ok(rose)
 }
 
 /// Brings what arises into the table, and takes the point's turn off the dirty ones. `Memory` leaves
