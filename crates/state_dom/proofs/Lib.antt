@@ -1,5 +1,6 @@
 pub mod Assigning
 pub mod Bounding
+pub mod Columns
 pub mod Deciding
 pub mod Evaluating
 pub mod InPlace

@@ -1,3 +1,4 @@
+pub mod Columns
 pub mod Evaluation
 pub mod Examples
 pub mod Laws

@@ -5,6 +5,7 @@
 mod evaluation;
 mod examples;
 mod guarding;
+mod intervals;
 mod law;
 mod operators;
 mod state;

@@ -4,6 +4,7 @@ ghost use Rattle.interval_dom.specs.Bounds.{hull};
 ghost use Rattle.interval_dom.specs.Marks.{widened};
 ghost use Rattle.state_dom.specs.StateValue.{Bottom, Reached, room_of, slots_of, locks_of, is_reached, start_of, CoversState, join_of, raised_by, CoversEach, on_each};
 
+use crate::intervals::Intervals;
 use crate::thresholds::Thresholds;
 use gob_tree::Memory;
 use interval_dom::Interval;
@@ -17,7 +18,7 @@ use std::marker::Model;
 #[derive(Debug, Drop)]
 pub struct State {
     reached: bool,
-    slots: Vec<Interval>,
+    slots: Intervals,
     locks: Locks,
 }
 
@@ -26,7 +27,7 @@ impl Model for State {
 
     ghost Value = { StateValue };
 
-    ghost view = { λ s. state_value s.reached s.slots.items s.locks };
+    ghost view = { λ s. state_value s.reached s.slots s.locks };
 }
 
 impl State {
@@ -35,7 +36,7 @@ impl State {
     pub fn bottom(alloc: Global, slots: u16) -> Result<State, Memory>
         ensures { IfOk result (λ s. s ≡ Bottom slots) }
     {
-        let slots = vec![in alloc; zero(); slots as usize]?;
+        let slots = Intervals::zeros(alloc, slots)?;
         Ok(State {
             reached: false,
             slots,
@@ -47,7 +48,7 @@ impl State {
     pub fn start(alloc: Global, slots: u16) -> Result<State, Memory>
         ensures { IfOk result (λ s. s ≡ start_of slots) }
     {
-        let slots = vec![in alloc; zero(); slots as usize]?;
+        let slots = Intervals::zeros(alloc, slots)?;
         Ok(State {
             reached: true,
             slots,
@@ -74,7 +75,7 @@ impl State {
         requires { i < length (slots_of self.now) }
         ensures { slice_get (slots_of self.now) i ≡ Some result }
     {
-        self.slots[i as usize]
+        self.slots.get(i as usize)
     }
 
     /// The mutexes that are surely held, of a state that isn't Bottom.
@@ -89,7 +90,7 @@ impl State {
     pub fn copy(&self, alloc: Global) -> Result<State, Memory>
         ensures { IfOk result (λ s. s ≡ self.now) }
     {
-        let slots = Vec::from_slice(alloc, self.slots.as_slice())?;
+        let slots = self.slots.copy(alloc)?;
         Ok(State {
             reached: self.reached,
             slots,
@@ -108,7 +109,7 @@ impl State {
         if !other.reached {
             return false;
         }
-        self.locks.le(other.locks) && all_le(self.slots.as_slice(), other.slots.as_slice())
+        self.locks.le(other.locks) && self.slots.le(&other.slots)
     }
 
     /// Raises this state to the least one that bounds it and the other; takes no memory.
@@ -123,7 +124,7 @@ impl State {
             return;
         }
         if self.reached {
-            join_each(self.slots.as_mut_slice(), other.slots.as_slice());
+            self.slots.join_into(&other.slots);
             self.locks = self.locks.meet(other.locks);
         } else {
             self.become_reached(other);
@@ -145,11 +146,7 @@ impl State {
             return false;
         }
         if self.reached {
-            widen_each(
-                self.slots.as_mut_slice(),
-                new.slots.as_slice(),
-                marks.as_slice(),
-            );
+            self.slots.widen_into(&new.slots, marks.as_slice());
             self.locks = self.locks.meet(new.locks);
         } else {
             self.become_reached(new);
@@ -170,7 +167,7 @@ impl State {
         requires in_range { i < room_of self.old }
         ensures { self.new ≡ Reached (slice_set (slots_of self.old) i v) (locks_of self.old) }
     {
-        self.slots[i as usize] = v;
+        self.slots.set(i as usize, v);
     }
 
     /// Gives this state the other's value.
@@ -196,54 +193,8 @@ impl State {
         requires reached { is_reached other.now ≡ true }
         ensures { self.new ≡ other.now }
     {
-        self.slots
-            .as_mut_slice()
-            .copy_from_slice(other.slots.as_slice());
+        self.slots.set_to(&other.slots);
         self.locks = other.locks;
         self.reached = true;
-    }
-}
-
-fn zero() -> Interval
-    ensures { result ≡ record { lo = pos 0; hi = pos 0 } }
-{
-    match Interval::new(0, 0) {
-        Some(zero) => zero,
-        None => unreachable!(),
-    }
-}
-
-fn all_le(inner: &[Interval], outer: &[Interval]) -> bool
-    requires { length inner.now ≡ length outer.now }
-    ensures { IsTrue result ↔ CoversEach outer.now inner.now }
-{
-    for (i, interval) in inner.iter().enumerate() {
-        if !interval.le(outer[i]) {
-            return false;
-        }
-    }
-    true
-}
-
-fn join_each(intervals: &mut [Interval], others: &[Interval])
-    requires { length intervals.old ≡ length others.now }
-    ensures value { intervals.new ≡ on_each hull intervals.old others.now }
-    ensures old { CoversEach intervals.new intervals.old }
-    ensures new { CoversEach intervals.new others.now }
-{
-    for i in 0..intervals.len() {
-        intervals[i] = intervals[i].join(others[i]);
-    }
-}
-
-fn widen_each(intervals: &mut [Interval], others: &[Interval], marks: &[i64])
-    requires sizes { length intervals.old ≡ length others.now }
-    requires ascending { IsSorted int_cmp marks.now }
-    ensures value { intervals.new ≡ on_each (λ x y. widened x y marks.now) intervals.old others.now }
-    ensures old { CoversEach intervals.new intervals.old }
-    ensures new { CoversEach intervals.new others.now }
-{
-    for i in 0..intervals.len() {
-        intervals[i] = intervals[i].widen(others[i], marks);
     }
 }
