@@ -5,8 +5,9 @@ ghost use Rattle.gob_tree.specs.declared.expr.Expr.{Local as Slot, Unary as Pref
 ghost use Rattle.gob_tree.specs.declared.expr.UnOp.TheVariants.{Not as Negated};
 ghost use Rattle.interval_dom.specs.Bounds.{between};
 ghost use Rattle.state_dom.specs.Evaluation.{interval_of, guarded_by};
-ghost use Rattle.state_dom.specs.Examples.{two_ints, two_longs, both, to_ten, five_to_eight, just, less, less_than_itself, equal, either_side, inside, no_value, one_more};
-ghost use Rattle.state_dom.specs.StateValue.{Bottom};
+ghost use Rattle.state_dom.specs.Examples.{two_ints, two_longs, both, to_ten, five_to_eight, just, less, less_than_itself, equal, either_side, inside, no_value, one_more, small_program, wide_program, int_program};
+ghost use Rattle.state_dom.specs.StateValue.{Bottom, Reached, raised_by};
+ghost use Rattle.state_dom.specs.ThresholdValues.{thresholds_of};
 
 /// What guards leave: both operands of a comparison, the right one by the left one's new interval;
 /// the opposite where it is unwanted, also under `!`; the two sides of `||` and `&&`, joined; Bottom
@@ -31,4 +32,24 @@ pub fn evaluations_by_hand()
     ensures and_never { interval_of two_ints (five_to_eight ∷ to_ten ∷ []) (Infix Both (Slot 0) no_value) ≡ None }
     ensures or_maybe { interval_of two_ints (to_ten ∷ to_ten ∷ []) (Infix Either (Slot 0) no_value) ≡ Some (just (pos 1)) }
     ensures or_never { interval_of two_ints (just (pos 0) ∷ to_ten ∷ []) (Infix Either (Slot 0) no_value) ≡ None }
+{}
+
+/// The thresholds of programs: each number of a guard, an assertion, a call's argument and a
+/// global's initial value with its neighbours, where they fit; and the ends of the types that are
+/// there.
+pub fn thresholds_by_hand()
+    ensures small { thresholds_of small_program ≡ pos 9 ∷ pos 10 ∷ pos 11 ∷ pos 2 ∷ pos 3 ∷ pos 4 ∷ pos 6 ∷ pos 7 ∷ pos 8 ∷ pos 19 ∷ pos 20 ∷ pos 21 ∷ negsuc 2147483647 ∷ pos 2147483647 ∷ [] }
+    ensures int { thresholds_of int_program ≡ pos 2147483646 ∷ pos 2147483647 ∷ negsuc 2147483647 ∷ pos 2147483647 ∷ [] }
+    ensures wide { thresholds_of wide_program ≡ pos 2147483646 ∷ pos 2147483647 ∷ pos 2147483648 ∷ pos 2147483646 ∷ pos 2147483647 ∷ pos 2147483648 ∷ negsuc 2147483647 ∷ pos 2147483647 ∷ negsuc 9223372036854775807 ∷ pos 9223372036854775807 ∷ [] }
+{}
+
+/// Raises over the thresholds -5, 0, 9 and 20: an end that moves goes on to the next threshold, an
+/// end that doesn't move stays where it is, the mutexes are those that both hold, and Bottom
+/// becomes the other.
+pub fn raises_by_hand()
+    ensures high { raised_by (negsuc 4 ∷ pos 0 ∷ pos 9 ∷ pos 20 ∷ []) (Reached (between (pos 1) (pos 2) ∷ []) 6) (Reached (between (pos 2) (pos 3) ∷ []) 3) ≡ Reached (between (pos 1) (pos 9) ∷ []) 2 }
+    ensures low { raised_by (negsuc 4 ∷ pos 0 ∷ pos 9 ∷ pos 20 ∷ []) (Reached (between (pos 1) (pos 2) ∷ []) 0) (Reached (between (negsuc 0) (pos 2) ∷ []) 0) ≡ Reached (between (negsuc 4) (pos 2) ∷ []) 0 }
+    ensures on_threshold { raised_by (negsuc 4 ∷ pos 0 ∷ pos 9 ∷ pos 20 ∷ []) (Reached (between (pos 1) (pos 2) ∷ []) 0) (Reached (between (pos 0) (pos 20) ∷ []) 0) ≡ Reached (between (pos 0) (pos 20) ∷ []) 0 }
+    ensures stays { raised_by (negsuc 4 ∷ pos 0 ∷ pos 9 ∷ pos 20 ∷ []) (Reached (between (pos 1) (pos 5) ∷ []) 1) (Reached (between (pos 2) (pos 3) ∷ []) 1) ≡ Reached (between (pos 1) (pos 5) ∷ []) 1 }
+    ensures from_bottom { raised_by (negsuc 4 ∷ pos 0 ∷ pos 9 ∷ pos 20 ∷ []) (Bottom 1) (Reached (between (pos 2) (pos 3) ∷ []) 1) ≡ Reached (between (pos 2) (pos 3) ∷ []) 1 }
 {}
