@@ -1,0 +1,4 @@
+pub mod Vertices
+pub mod Offered
+pub mod Following
+pub mod Texts
