@@ -1,2 +1,4 @@
+pub mod ExprForms
+pub mod Firsts
 pub mod RawFolds
 pub mod RawLevels

@@ -3,4 +3,5 @@ pub mod Examples
 pub mod Faults
 pub mod Names
 pub mod Rules
+pub mod Spelled
 pub mod Units

@@ -107,6 +107,11 @@ with_thread x body =
 abbrev pub opened : BodyNames → BodyNames
 opened body = record body { depth = body.depth + 1 }
 
+-- whether the latest declaration stands in so many blocks
+abbrev pub begins_in : ℕ → List (List ℕ × Declared) → Bool
+begins_in depth [] = false
+begins_in depth (d ∷ ds) = d.1.depth == depth
+
 abbrev pub without_block : ℕ → List (List ℕ × Declared) → List (List ℕ × Declared)
 without_block depth [] = []
 without_block depth (d ∷ ds) = if d.1.depth == depth then without_block depth ds else d ∷ ds

@@ -1,4 +1,7 @@
-use gob_tree::Place;
+ghost use Rattle.std.specs.Prelude.{◌≡◌};
+ghost use Rattle.c_check.specs.Faults.{want_of_memory, fault_at, asks, Passes};
+
+use gob_tree::{Memory, Place};
 
 /// What is wrong with a text: in its bytes and tokens (`TooLong` to `Unsupported`), in its grammar
 /// (`Unsupported` to `TooDeep`), in its names and types (`BadLiteral` to `WrongArity`), or as a
@@ -44,4 +47,30 @@ pub enum FrontKind {
 pub struct FrontFault {
     pub kind: FrontKind,
     pub place: Place,
+}
+
+impl From<Memory> for FrontFault {
+    ghost from_gives = { λ _ fault. fault ≡ want_of_memory };
+
+    fn from(_want: Memory) -> FrontFault {
+        fault_at(FrontKind::Memory, Place { line: 1, column: 1 })
+    }
+}
+
+/// A fault of a kind at a place.
+pub(crate) fn fault_at(kind: FrontKind, place: Place) -> FrontFault
+    ensures { result ≡ fault_at kind place }
+{
+    FrontFault { kind, place }
+}
+
+/// A rule that asks something of a place: a fault there where it is broken.
+#[tactic(auto, using(crate::specs::Faults::first))]
+pub(crate) fn ask(holds: bool, kind: FrontKind, place: Place) -> Result<(), FrontFault>
+    ensures { Passes result (asks holds kind place) }
+{
+    if holds {
+        return Ok(());
+    }
+    Err(fault_at(kind, place))
 }

@@ -5,6 +5,10 @@
 mod examples;
 mod fault;
 mod meaning;
+mod named;
+mod rules;
+mod scope;
+mod visible;
 
 pub use examples::limits_by_hand;
 pub use fault::{FrontFault, FrontKind};
