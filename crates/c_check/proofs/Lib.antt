@@ -2,3 +2,10 @@ pub mod ExprForms
 pub mod Firsts
 pub mod RawFolds
 pub mod RawLevels
+pub mod WellMadeBodies
+pub mod WellMadeExprs
+pub mod WellMadeForms
+pub mod WellMadeInduct
+pub mod WellMadeNames
+pub mod WellMadeScopes
+pub mod WellMadeStmts
