@@ -21,7 +21,7 @@ use Rattle.action_law.specs.Laws.{EdgesKeepGlobals}
 use Rattle.action_law.proofs.Edges.{edges_have_effects}
 
 -- the interval that bounds a number's interval describes the number
-covered : (o : Option Value) (v : Bounds) (n : ℤ) → CoversValue o (Number v) → Describes v n → IsSomeAnd (shown_number (shown o)) (λ (x : Bounds). Describes x n)
+pub covered : (o : Option Value) (v : Bounds) (n : ℤ) → CoversValue o (Number v) → Describes v n → IsSomeAnd (shown_number (shown o)) (λ (x : Bounds). Describes x n)
 covered None v n covers within = absurd covers
 covered (Some (State s)) v n covers within = absurd covers
 covered (Some (Number x)) v n covers within = (omega (arith, ints, covers.0, within.0), omega (arith, ints, covers.1, within.1))

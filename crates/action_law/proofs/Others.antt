@@ -141,7 +141,7 @@ step_of p c next thread input label q =
 
 -- ---- the other threads
 
-other_thread : (threads : List (List Frame)) (thread other : ℕ) (frames : List Frame) → other ≢ thread → thread_at (with_thread threads thread frames) other ≡ thread_at threads other
+pub other_thread : (threads : List (List Frame)) (thread other : ℕ) (frames : List Frame) → other ≢ thread → thread_at (with_thread threads thread frames) other ≡ thread_at threads other
 other_thread threads zero other frames differ = refl
 other_thread threads (suc i) zero frames differ = refl
 other_thread threads (suc i) (suc j) frames differ = get_set_other threads i j frames (λ same. differ (ap suc same))

@@ -1,0 +1,4 @@
+pub mod Bounding
+pub mod Runs
+pub mod Steps
+pub mod Threads
