@@ -18,11 +18,14 @@ use Rattle.constraint_sys.specs.PostSolution.{IsPostSolution}
 use Rattle.constraint_sys.specs.Sound.{IsShaped}
 use Rattle.constraint_sys.specs.Table.{TableValue, empty_key, slots_at, state_at, value_at}
 use Rattle.constraint_sys.specs.Transfer.{number_at}
+use Rattle.constraint_sys.specs.Turn.{initial_of}
+use Rattle.constraint_sys.proofs.Replaying.{IsPostSolution-clean, IsSound-replayed}
+use Rattle.constraint_sys.proofs.SoundStart.{IsSound-initial}
 use Rattle.action_law.specs.Described.{DescribesGlobals, DescribesSlots}
 use Rattle.action_law.proofs.Frames.{new_func, new_node, start_described}
 use Rattle.action_law.proofs.Globals.{covered}
 use Rattle.run_law.specs.Known.{IsKnown, KnowsCallers, KnowsThread}
-use Rattle.run_law.specs.Laws.{FirstIsKnown, FramesAreDescribed, RunsAreKnown}
+use Rattle.run_law.specs.Laws.{FirstIsKnown, FramesAreDescribed, RunsAreKnown, SolvedTablesAreTrue}
 use Rattle.run_law.proofs.Bounding.{slots_described, target_describes}
 use Rattle.run_law.proofs.Steps.{steps_keep_known}
 
@@ -85,6 +88,11 @@ moves_known p t formed shaped post (move ∷ moves) c last known q =
 
 pub runs_are_known : RunsAreKnown
 runs_are_known p t moves last formed shaped post q = moves_known p t formed shaped post moves (first_graph p) last (first_is_known p t formed post) q
+
+pub solved_tables_are_true : SolvedTablesAreTrue
+solved_tables_are_true p trace solved moves last formed replayed clean q =
+    let sound = IsSound-replayed p (initial_of p) trace solved formed (IsSound-initial p formed) replayed in
+    runs_are_known p solved.table moves last formed sound.shaped (IsPostSolution-clean p solved sound clean) q
 
 -- ---- the frames of a thread
 

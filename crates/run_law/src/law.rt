@@ -2,6 +2,7 @@ ghost use Rattle.run_law.specs.Laws.{
   FirstIsKnown,
   FramesAreDescribed,
   RunsAreKnown,
+  SolvedTablesAreTrue,
   StepsKeepKnown,
 };
 
@@ -18,8 +19,10 @@ pub fn steps_keep_known()
 
 /// Every shaped post-solution knows every moment of every run of the graphs: each global is in its
 /// interval, and each frame of each thread stands at a point whose state describes its slots, the
-/// topmost one's also mutexes that the thread owns.
+/// topmost one's also mutexes that the thread owns. So does the table with which a solver ends that
+/// takes turns from the initial table until nothing is dirty.
 pub fn runs_are_known()
     ensures known { RunsAreKnown }
     ensures frames { FramesAreDescribed }
+    ensures solved { SolvedTablesAreTrue }
 {}
