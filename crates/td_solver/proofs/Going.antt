@@ -1,5 +1,5 @@
 -- Runs that go on by turns, one after another.
-use Rattle.std.proofs.Common.{◌≡◌, List, [], ◌∷◌, ◌++◌, refl, sym, ap, ◌∙◌, subst, append_assoc}
+use Rattle.std.proofs.Common.{List, [], ◌∷◌, ◌++◌, refl, sym, ap, ◌∙◌, subst, append_assoc}
 use Rattle.std.proofs.lemmas.List.{append-nil}
 use Rattle.c_source.specs.declared.source.Source.{Source}
 use Rattle.gob_tree.specs.declared.graph.Program.{Program}

@@ -1,9 +1,7 @@
 -- Runs of a solver: what they show, and how they go on.
-use Rattle.std.specs.Prelude.{◌≡◌, ℕ, ◌+◌, ◌≤◌, List, [], ◌∷◌, ◌++◌, length}
+use Rattle.std.specs.Prelude.{◌≡◌, ℕ, ◌≤◌, List, [], ◌∷◌, ◌++◌, length}
 use Rattle.c_source.specs.declared.source.Source.{Source}
-use Rattle.gob_tree.specs.Formed.{IsFormed}
 use Rattle.gob_tree.specs.declared.graph.Program.{Program}
-use Rattle.constraint_sys.specs.Sound.{IsTurnable}
 use Rattle.constraint_sys.specs.Turn.{Replays, Solving, Turns}
 use Rattle.constraint_sys.specs.declared.unknown.Unknown.{Unknown}
 

@@ -1,9 +1,9 @@
 use Rattle.std.proofs.Common.{◌≡◌, sym, ap, ◌∙◌, subst, refl}
 use Rattle.constraint_sys.specs.PostSolution.{IsPostSolution}
 use Rattle.constraint_sys.specs.Table.{TableValue}
-use Rattle.constraint_sys.specs.Turn.{Replays, Solving}
+use Rattle.constraint_sys.specs.Turn.{Replays}
 use Rattle.constraint_sys.proofs.Replaying.{IsPostSolution-clean, IsSound-replayed}
-use Rattle.td_solver.specs.Ending.{begun, program_of_job, start_of_job}
+use Rattle.td_solver.specs.Ending.{program_of_job, start_of_job}
 use Rattle.td_solver.specs.Running.{Running, program_of}
 use Rattle.td_solver.specs.declared.job.Solved.{Solved}
 use Rattle.td_solver.proofs.budget.solve.Goals as goal

@@ -1,4 +1,4 @@
-use Rattle.std.proofs.Common.{[], refl}
+use Rattle.std.proofs.Common.{[]}
 use Rattle.td_solver.proofs.Going.{GoesOn-by, GoesOn-none, Replays-on}
 use Rattle.td_solver.proofs.law.runs_go_on.Goals as goal
 
