@@ -2,10 +2,15 @@ pub mod ExprForms
 pub mod Firsts
 pub mod RawFolds
 pub mod RawLevels
+pub mod WellMade
 pub mod WellMadeBodies
 pub mod WellMadeExprs
 pub mod WellMadeForms
+pub mod WellMadeFunctions
+pub mod WellMadeGrowth
 pub mod WellMadeInduct
+pub mod WellMadeItems
 pub mod WellMadeNames
 pub mod WellMadeScopes
 pub mod WellMadeStmts
+pub mod WellMadeUnits
