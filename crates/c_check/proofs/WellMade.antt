@@ -1,7 +1,7 @@
 -- A unit without a fault is well made.
-use Rattle.std.proofs.Common.{◌≡◌, ◌≢◌, refl, sym, ap, ◌∙◌, subst, ℕ, ℤ, ◌+◌, Bool, true, false, not, ◌&&◌, ◌||◌, if◌then◌else◌, List, [], ◌∷◌, ◌++◌, length, map, Option, None, Some, IsTrue, IsSomeAnd, AllPairs, nat_lt, slice_get, arith, length-append, lt-ltb}
+use Rattle.std.proofs.Common.{◌≡◌, ◌≢◌, refl, sym, ap, ◌∙◌, subst, ℕ, ℤ, ◌+◌, Bool, true, false, not, ◌||◌, List, [], ◌∷◌, ◌++◌, length, map, Option, Some, IsTrue, IsSomeAnd, AllPairs, slice_get, arith, length-append, lt-ltb}
 use Rattle.std.specs.List.{AllByRecursion, list_all, list_any}
-use Rattle.std.proofs.lemmas.Bool.{and_parts, or_parts, cond-false, not-true, eqb-true, true≢false}
+use Rattle.std.proofs.lemmas.Bool.{and_parts, or_parts, cond-false, not-true, eqb-true}
 use Rattle.std.proofs.lemmas.List.Elements.{All-from_recursion}
 use Rattle.std.proofs.lemmas.Option.{slice_get_within, get_or_from_slice_get}
 use Rattle.std.proofs.lemmas.List.Kept.{AllPairs-cons}
@@ -26,13 +26,13 @@ use Rattle.c_check.specs.declared.meaning.Meaning.{Meaning}
 use Rattle.c_check.specs.declared.meaning.Meaning.TheVariants as meanings
 use Rattle.c_check.specs.declared.meaning.Signature.{Signature}
 use Rattle.c_check.specs.Faults.{asks}
-use Rattle.c_check.specs.Names.{is_main, is_arbitrary, FileNames, named, is_named, is_among}
-use Rattle.c_check.specs.Spelled.{is_spelled, is_spelled_item, IsSpelled}
-use Rattle.c_check.specs.Units.{is_main_head, is_value, is_defined, is_declared, main_faults, value_faults, item_faults, items_faults, function_faults, definitions, prototypes, param_count, function_of, Made, after_item, after_items, nothing_made, made_of, unit_of, unit_faults, is_main_function, no_main_faults}
+use Rattle.c_check.specs.Names.{is_main, is_arbitrary, FileNames, is_named, is_among}
+use Rattle.c_check.specs.Spelled.{is_spelled_item, IsSpelled}
+use Rattle.c_check.specs.Units.{is_main_head, is_defined, is_declared, main_faults, value_faults, item_faults, items_faults, definitions, prototypes, function_of, Made, after_item, after_items, nothing_made, made_of, unit_of, unit_faults, is_main_function}
 use Rattle.c_check.proofs.WellMadeFunctions.{each_append, returned, function_made}
 use Rattle.c_check.proofs.WellMadeItems.{Distinct, names, map_one_more, with_function_name, with_global_name, with_mutex_name, not_among, not_named, not_named_text, named_last, all_named_more, all_defined}
 use Rattle.c_check.proofs.WellMadeNames.{nil_left, nil_right, asks_true, IsGlobal, FileFits}
-use Rattle.c_check.proofs.WellMadeUnits.{Carries, carries, at_end, DefinedAs, ValueFits, MainFirst, First, first, found_first, protos_named, file_fits}
+use Rattle.c_check.proofs.WellMadeUnits.{carries, at_end, DefinedAs, ValueFits, MainFirst, first, found_first, protos_named, file_fits}
 
 -- ---- `main`
 
@@ -124,7 +124,7 @@ module _ (unit : TranslationUnit) (D P : List (List ℕ × Signature)) (main : M
   mutex_sound x a s none holds =
       let m = meanings.Mutex (length a.mutexes) in
       let counted : length unit.mutexes ≡ length a.mutexes + 1 + length holds.more_mutexes =
-          ap (λ (l : List Text). length l) holds.mutexes ∙ length-append (a.mutexes ++ x.text ∷ []) holds.more_mutexes ∙ ap (λ (n : ℕ). n + length holds.more_mutexes) (length-append a.mutexes (x.text ∷ [])) in
+      ap (λ (l : List Text). length l) holds.mutexes ∙ length-append (a.mutexes ++ x.text ∷ []) holds.more_mutexes ∙ ap (λ (n : ℕ). n + length holds.more_mutexes) (length-append a.mutexes (x.text ∷ [])) in
       record {
         definitions = s.definitions;
         prototypes = s.prototypes;
@@ -140,8 +140,16 @@ module _ (unit : TranslationUnit) (D P : List (List ℕ × Signature)) (main : M
 
   prototype_sound : (h : RawHead) (a : Made) → Sound unit D P a → Sound unit D P (after_item (items.Prototype h) a)
   prototype_sound h a s = record {
-    definitions = s.definitions; prototypes = s.prototypes; values = s.values; functions = s.functions; mains = s.mains; initials = s.initials;
-    distinct = s.distinct; defined = s.defined; globals_named = s.globals_named; mutexes_named = s.mutexes_named;
+    definitions = s.definitions;
+    prototypes = s.prototypes;
+    values = s.values;
+    functions = s.functions;
+    mains = s.mains;
+    initials = s.initials;
+    distinct = s.distinct;
+    defined = s.defined;
+    globals_named = s.globals_named;
+    mutexes_named = s.mutexes_named;
   }
 
   file_is_fit : (f : Function) (a : Made) → Sound unit D P a → FileFits unit f a.names
@@ -211,10 +219,10 @@ made_unit raw spelled none =
     let has_main = asks_true (list_any is_main_function unit.funcs) _ _ (nil_left _ _ (nil_right (items_faults raw.items start) _ none)) in
     let main : MainFirst unit = λ g e. found_first is_main_function unit.funcs g e in
     let s : Sound unit (definitions 0 raw.items) (prototypes raw.items) (made_of raw) =
-        walk unit (definitions 0 raw.items) (prototypes raw.items) main (all_defined raw.items start 0 refl) (protos_named (definitions 0 raw.items) raw.items start refl checks)
-        (made_of raw) refl refl raw.items start refl
-        (record { definitions = refl; prototypes = refl; values = tt; functions = tt; mains = tt; initials = tt; distinct = tt; defined = refl; globals_named = tt; mutexes_named = tt })
-        checks spelled in
+    walk unit (definitions 0 raw.items) (prototypes raw.items) main (all_defined raw.items start 0 refl) (protos_named (definitions 0 raw.items) raw.items start refl checks)
+    (made_of raw) refl refl raw.items start refl
+    (record { definitions = refl; prototypes = refl; values = tt; functions = tt; mains = tt; initials = tt; distinct = tt; defined = refl; globals_named = tt; mutexes_named = tt })
+    checks spelled in
     let it = first is_main_function unit.funcs has_main in
     record {
       main_there = subst (λ (o : Option Function). IsSomeAnd o IsMainOf) (sym it.there) (each_at (λ (f : Function). is_main f.name ≡ true → IsMainOf f) unit.funcs unit.main it.found s.mains it.there it.passes);

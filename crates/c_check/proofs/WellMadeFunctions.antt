@@ -1,12 +1,12 @@
 -- A function without a fault is well made.
-use Rattle.std.proofs.Common.{◌≡◌, refl, sym, ap, ◌∙◌, subst, ℕ, pos, ◌+◌, ◌<◌, ◌≤◌, Bool, true, false, cond, not, ◌&&◌, if◌then◌else◌, List, [], ◌∷◌, ◌++◌, length, map, Option, None, Some, IsTrue, arith, length-append, append-nil}
+use Rattle.std.proofs.Common.{◌≡◌, refl, sym, ap, ◌∙◌, ℕ, pos, ◌+◌, ◌<◌, Bool, true, false, not, ◌&&◌, if◌then◌else◌, List, [], ◌∷◌, ◌++◌, length, map, Option, None, Some, IsTrue, arith, length-append, append-nil}
 use Rattle.std.specs.List.{AllByRecursion, list_all}
 use Rattle.std.specs.Option.{option_map_or}
 use Rattle.std.proofs.lemmas.Bool.{and_parts}
 use Rattle.std.proofs.lemmas.List.Folds.{list_all-map}
 use Rattle.std.proofs.lemmas.List.Elements.{All-from_recursion}
 use Rattle.gob_tree.specs.Widths.{returned_width}
-use Rattle.gob_tree.specs.WellMade.{is_int, is_thread, is_made_expr, expr_step, StmtForm, form_step, placed_step as tree_placed, form_of, is_made, is_return, ends_in_return, IsWellMadeFunction}
+use Rattle.gob_tree.specs.WellMade.{is_int, is_thread, is_made_expr, expr_step, StmtForm, form_step, placed_step as tree_placed, form_of, is_made, ends_in_return, IsWellMadeFunction}
 use Rattle.gob_tree.specs.declared.place.Place.{Place}
 use Rattle.gob_tree.specs.declared.expr.Width.{Width}
 use Rattle.gob_tree.specs.declared.expr.Width.TheVariants.{W32}
@@ -25,11 +25,10 @@ use Rattle.c_parse.specs.declared.raw.expr.RawName.{RawName}
 use Rattle.c_parse.specs.declared.raw.stmt.RawPlaced.{RawPlaced}
 use Rattle.c_parse.specs.declared.raw.unit.RawHead.{RawHead}
 use Rattle.c_parse.specs.declared.raw.unit.RawParam.{RawParam}
-use Rattle.c_check.specs.declared.meaning.Meaning.TheVariants as meanings
-use Rattle.c_check.specs.Names.{is_main, FileNames, BodyNames, with_name, with_local, with_slot}
+use Rattle.c_check.specs.Names.{is_main, FileNames, BodyNames}
 use Rattle.c_check.specs.Bodies.{reading_of, sequence_faults, sequence_becomes, sequence_after}
 use Rattle.c_check.specs.Spelled.{is_spelled, spelling_of}
-use Rattle.c_check.specs.Units.{with_param_named, with_nameless, with_param, with_params, head_names, body_names, last_value, with_return, param_count, function_of}
+use Rattle.c_check.specs.Units.{with_param_named, with_nameless, with_param, with_params, head_names, body_names, last_value, function_of}
 use Rattle.c_check.proofs.WellMadeNames.{FileFits, Fine}
 use Rattle.c_check.proofs.WellMadeScopes.{Grows, Within, grows_none, grows_then, within_before, grows_local, grows_slot, fine_local, fine_slot, returned_kept}
 use Rattle.c_check.proofs.WellMadeStmts.{seq_made}
@@ -182,8 +181,8 @@ module _ (file : FileNames) (h : RawHead) (end : Place) (body : List RawPlaced) 
         let last : Placed = record { place = end; stmt = Return (last_value h) } in
         let statements_made = seq_made unit f file fits body (every_behaves unit f file fits body) (list_all-map (λ s. s.spelled) spelling_of body ∙ spelled) false (body_names h) body_fine within_all none in
         let last_is : is_made unit f last ≡ true =
-            ap (λ (g : StmtForm). g.made false) (tree.fold-struct StmtForm StmtForm (form_step unit f) tree_placed end (Return (last_value h)) ∙ tree.fold-Return StmtForm StmtForm (form_step unit f) tree_placed (last_value h))
-            ∙ last_made unit f h.kind (is_main h.name.text) h.width in
+        ap (λ (g : StmtForm). g.made false) (tree.fold-struct StmtForm StmtForm (form_step unit f) tree_placed end (Return (last_value h)) ∙ tree.fold-Return StmtForm StmtForm (form_step unit f) tree_placed (last_value h))
+        ∙ last_made unit f h.kind (is_main h.name.text) h.width in
         let each = each_made unit f ss statements_made in
         record {
           returned_and_params = fewer (is_thread h.kind) (length h.params) (length f.slots) params_within slots_begun;

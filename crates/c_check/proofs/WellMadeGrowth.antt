@@ -1,11 +1,10 @@
 -- Behind a statement the declarations are those before it and more.
 use Rattle.std.proofs.Common.{◌≡◌, sym, ap, subst, List, [], ◌∷◌, map, Option, None, Some}
 use Rattle.std.specs.List.{AllByRecursion}
-use Rattle.std.specs.Option.{option_map}
 use Rattle.gob_tree.specs.declared.place.Place.{Place}
 use Rattle.c_parse.specs.declared.raw.stmt.RawStmt.{RawStmt, fold-RawStmt, fold-roll-RawStmt, map-RawStmt, roll-RawStmt}
 use Rattle.c_parse.specs.declared.raw.stmt.RawStmt.TheOpen.{RawStmt-F, RawPlaced-F}
-use Rattle.c_parse.specs.declared.raw.stmt.RawPlaced.{RawPlaced, fold-RawPlaced, fold-roll-RawPlaced, ind-RawPlaced, map-RawPlaced, roll-RawPlaced}
+use Rattle.c_parse.specs.declared.raw.stmt.RawPlaced.{RawPlaced, fold-roll-RawPlaced, ind-RawPlaced, map-RawPlaced, roll-RawPlaced}
 use Rattle.c_check.specs.Names.{FileNames, BodyNames, opened}
 use Rattle.c_check.specs.Bodies.{Reading, sequence_after, part_after, for_head, for_body, reading_step, placed_step, reading_of}
 use Rattle.c_check.proofs.WellMadeScopes.{Grows, grows_none, grows_then, grows_local, grows_thread, grows_block}

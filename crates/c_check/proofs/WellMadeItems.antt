@@ -1,35 +1,22 @@
 -- What is kept from item to item of a unit without a fault.
-use Rattle.std.proofs.Common.{◌≡◌, ◌≢◌, refl, sym, ap, ◌∙◌, subst, ℕ, ℤ, ◌+◌, Bool, true, false, cond, not, ◌&&◌, ◌||◌, if◌then◌else◌, List, [], ◌∷◌, ◌++◌, length, map, Option, None, Some, IsTrue, bytes_eq, nat_lt, slice_get, arith, length-append, append_assoc, append-nil, lt-ltb}
-use Rattle.std.specs.List.{AllByRecursion, list_any}
+use Rattle.std.proofs.Common.{◌≡◌, ◌≢◌, refl, sym, ap, ◌∙◌, subst, ℕ, ◌+◌, Bool, true, false, cond, List, [], ◌∷◌, ◌++◌, length, map, Option, None, Some, bytes_eq, slice_get, length-append, append_assoc, append-nil}
+use Rattle.std.specs.List.{AllByRecursion}
 use Rattle.std.specs.Option.{option_map_or}
-use Rattle.std.proofs.lemmas.Bool.{and_parts, or_parts, cond-false, not-true, eqb-true, true≢false}
+use Rattle.std.proofs.lemmas.Bool.{or_parts, cond-false, true≢false}
 use Rattle.std.proofs.lemmas.List.{length-map}
 use Rattle.std.proofs.lemmas.Slice.Eq.{bytes_eq-Decides}
-use Rattle.gob_tree.specs.Widths.{fits, same_width, returned_width}
-use Rattle.gob_tree.specs.WellMade.{is_int, is_thread, IsWellMadeFunction}
-use Rattle.gob_tree.specs.declared.place.Place.{Place}
-use Rattle.gob_tree.specs.declared.expr.Width.{Width}
-use Rattle.gob_tree.specs.declared.expr.Width.TheVariants.{W32, W64}
+use Rattle.gob_tree.specs.WellMade.{is_thread}
 use Rattle.gob_tree.specs.declared.text.Text.{Text}
-use Rattle.gob_tree.specs.declared.unit.FuncKind.{FuncKind}
-use Rattle.gob_tree.specs.declared.unit.FuncKind.TheVariants.{Int, Void, Thread}
 use Rattle.gob_tree.specs.declared.unit.Function.{Function}
 use Rattle.gob_tree.specs.declared.unit.GlobalDecl.{GlobalDecl}
-use Rattle.gob_tree.specs.declared.unit.Unit.{Unit as TranslationUnit}
-use Rattle.c_parse.specs.declared.raw.expr.RawName.{RawName}
-use Rattle.c_parse.specs.declared.raw.stmt.RawPlaced.{RawPlaced}
-use Rattle.c_parse.specs.declared.raw.unit.RawHead.{RawHead}
 use Rattle.c_parse.specs.declared.raw.unit.RawItem.{RawItem}
 use Rattle.c_parse.specs.declared.raw.unit.RawItem.TheVariants as items
 use Rattle.c_check.specs.declared.meaning.Meaning.{Meaning}
-use Rattle.c_check.specs.declared.meaning.Meaning.TheVariants as meanings
 use Rattle.c_check.specs.declared.meaning.Signature.{Signature}
-use Rattle.c_check.specs.Names.{is_main, is_arbitrary, FileNames, named, is_named, is_among}
-use Rattle.c_check.specs.Spelled.{is_spelled_item}
-use Rattle.c_check.specs.Units.{is_main_head, is_value, is_defined, is_declared, item_faults, definitions, param_count, function_of, Made, after_item, after_items, with_global, with_mutex, with_prototype, with_function}
-use Rattle.c_check.proofs.WellMadeFunctions.{each_append, returned, function_made}
-use Rattle.c_check.proofs.WellMadeNames.{nil_left, nil_right, asks_true, IsGlobal, FileFits}
-use Rattle.c_check.proofs.WellMadeUnits.{Carries, carries, at_end, DefinedAs, ValueFits}
+use Rattle.c_check.specs.Names.{named, is_named, is_among}
+use Rattle.c_check.specs.Units.{definitions, function_of, Made, after_item, after_items}
+use Rattle.c_check.proofs.WellMadeFunctions.{returned}
+use Rattle.c_check.proofs.WellMadeUnits.{carries, at_end, DefinedAs}
 
 -- ---- distinct names
 
@@ -127,13 +114,14 @@ all_defined (items.Prototype h ∷ rest) a n same = all_defined rest (after_item
 all_defined (items.Function h end body ∷ rest) a n same =
     let next = after_item (items.Function h end body) a in
     let f = function_of a.names h end body in
-    let later = carries rest next in
-    (record {
-      defined = f;
-      there = ap (λ (k : ℕ). slice_get (after_items rest next).funcs k) same ∙ ap (λ (l : List Function). slice_get l (length a.funcs)) later.funcs ∙ at_end a.funcs f later.more_funcs;
-      name = refl;
-      kind = refl;
-      width = returned a.names h end body;
-      counts = λ not_thread. length-map h.params _ ∙ sym (cond-false (is_thread h.kind) 0 (length h.params) not_thread);
-    },
-    all_defined rest next (n + 1) (ap (λ (k : ℕ). k + 1) same ∙ sym (length-append a.funcs (f ∷ []))))
+    let later = carries rest next in (
+      record {
+        defined = f;
+        there = ap (λ (k : ℕ). slice_get (after_items rest next).funcs k) same ∙ ap (λ (l : List Function). slice_get l (length a.funcs)) later.funcs ∙ at_end a.funcs f later.more_funcs;
+        name = refl;
+        kind = refl;
+        width = returned a.names h end body;
+        counts = λ not_thread. length-map h.params _ ∙ sym (cond-false (is_thread h.kind) 0 (length h.params) not_thread);
+      },
+      all_defined rest next (n + 1) (ap (λ (k : ℕ). k + 1) same ∙ sym (length-append a.funcs (f ∷ []))),
+    )

@@ -1,8 +1,8 @@
 -- What the items of a unit without a fault declare: each function, global and mutex is what its name is told to be.
-use Rattle.std.proofs.Common.{◌≡◌, ◌≢◌, refl, sym, ap, ◌∙◌, subst, ℕ, ℤ, suc, ◌+◌, ◌<◌, Bool, true, false, cond, not, ◌&&◌, ◌||◌, if◌then◌else◌, List, [], ◌∷◌, ◌++◌, length, map, Option, None, Some, IsTrue, nat_eq, nat_lt, slice_get, bytes_eq, get_or, arith, length-append, append_assoc, append-nil, lt-ltb, add-one}
-use Rattle.std.specs.List.{AllByRecursion, list_all, list_any, position_or_len}
+use Rattle.std.proofs.Common.{◌≡◌, refl, sym, ap, ◌∙◌, subst, ℕ, suc, ◌+◌, Bool, true, false, cond, not, ◌||◌, List, [], ◌∷◌, ◌++◌, length, Option, None, Some, nat_eq, nat_lt, slice_get, arith, append_assoc, append-nil}
+use Rattle.std.specs.List.{AllByRecursion, list_any, position_or_len}
 use Rattle.std.specs.Option.{option_or, option_map, option_map_or}
-use Rattle.std.proofs.lemmas.Bool.{and_parts, and_left, or_parts, cond-false, not-true, false_from_ne_true, eqb-true, true≢false}
+use Rattle.std.proofs.lemmas.Bool.{and_parts, and_left, cond-false, false_from_ne_true, eqb-true, true≢false}
 use Rattle.std.proofs.lemmas.List.Sums.{passes_at_first}
 use Rattle.std.proofs.lemmas.Option.{slice_get_within, get_or_from_slice_get}
 use Rattle.gob_tree.specs.Widths.{returned_width}
@@ -15,13 +15,12 @@ use Rattle.gob_tree.specs.declared.unit.Unit.{Unit as TranslationUnit}
 use Rattle.c_parse.specs.declared.raw.unit.RawHead.{RawHead}
 use Rattle.c_parse.specs.declared.raw.unit.RawItem.{RawItem}
 use Rattle.c_parse.specs.declared.raw.unit.RawItem.TheVariants as items
-use Rattle.c_check.specs.declared.fault.FrontFault.{FrontFault}
 use Rattle.c_check.specs.declared.meaning.Meaning.{Meaning}
 use Rattle.c_check.specs.declared.meaning.Meaning.TheVariants as meanings
 use Rattle.c_check.specs.declared.meaning.Signature.{Signature}
-use Rattle.c_check.specs.Names.{is_main, is_arbitrary, arbitrary_width, FileNames, named, is_named, callee, function_named, file_meaning}
-use Rattle.c_check.specs.Units.{is_dropped, has_definition, prototype_faults, definitions, prototypes, Made, after_item, after_items, items_faults, function_of}
-use Rattle.c_check.proofs.WellMadeNames.{nil_left, nil_right, asks_true, IsGlobal, IsCallee, Means, Told, lookup_told, same_text, FileFits}
+use Rattle.c_check.specs.Names.{is_main, is_arbitrary, arbitrary_width, FileNames, named, is_named, callee}
+use Rattle.c_check.specs.Units.{is_dropped, has_definition, prototype_faults, prototypes, Made, after_item, after_items, items_faults, function_of}
+use Rattle.c_check.proofs.WellMadeNames.{nil_left, nil_right, asks_true, IsGlobal, IsCallee, Means, Told, lookup_told, FileFits}
 
 -- ---- what is made stays
 
@@ -37,36 +36,56 @@ pub record Carries (a b : Made) : Type 0 where
 
 carries_none : (a : Made) → Carries a a
 carries_none a = record {
-  definitions = refl; prototypes = refl;
-  more_funcs = []; funcs = sym (append-nil a.funcs);
-  more_globals = []; globals = sym (append-nil a.globals);
-  more_mutexes = []; mutexes = sym (append-nil a.mutexes);
+  definitions = refl;
+  prototypes = refl;
+  more_funcs = [];
+  funcs = sym (append-nil a.funcs);
+  more_globals = [];
+  globals = sym (append-nil a.globals);
+  more_mutexes = [];
+  mutexes = sym (append-nil a.mutexes);
 }
 
 item_carries : (item : RawItem) (a : Made) → Carries a (after_item item a)
 item_carries (items.Global x w v literal) a = record {
-  definitions = refl; prototypes = refl;
-  more_funcs = []; funcs = sym (append-nil a.funcs);
-  more_globals = record { name = x.text; width = w; initial = v } ∷ []; globals = refl;
-  more_mutexes = []; mutexes = sym (append-nil a.mutexes);
+  definitions = refl;
+  prototypes = refl;
+  more_funcs = [];
+  funcs = sym (append-nil a.funcs);
+  more_globals = record { name = x.text; width = w; initial = v } ∷ [];
+  globals = refl;
+  more_mutexes = [];
+  mutexes = sym (append-nil a.mutexes);
 }
 item_carries (items.Mutex x) a = record {
-  definitions = refl; prototypes = refl;
-  more_funcs = []; funcs = sym (append-nil a.funcs);
-  more_globals = []; globals = sym (append-nil a.globals);
-  more_mutexes = x.text ∷ []; mutexes = refl;
+  definitions = refl;
+  prototypes = refl;
+  more_funcs = [];
+  funcs = sym (append-nil a.funcs);
+  more_globals = [];
+  globals = sym (append-nil a.globals);
+  more_mutexes = x.text ∷ [];
+  mutexes = refl;
 }
 item_carries (items.Prototype h) a = record {
-  definitions = refl; prototypes = refl;
-  more_funcs = []; funcs = sym (append-nil a.funcs);
-  more_globals = []; globals = sym (append-nil a.globals);
-  more_mutexes = []; mutexes = sym (append-nil a.mutexes);
+  definitions = refl;
+  prototypes = refl;
+  more_funcs = [];
+  funcs = sym (append-nil a.funcs);
+  more_globals = [];
+  globals = sym (append-nil a.globals);
+  more_mutexes = [];
+  mutexes = sym (append-nil a.mutexes);
 }
 item_carries (items.Function h end body) a = record {
-  definitions = refl; prototypes = refl;
-  more_funcs = function_of a.names h end body ∷ []; funcs = refl;
-  more_globals = []; globals = sym (append-nil a.globals);
-  more_mutexes = []; mutexes = sym (append-nil a.mutexes);
+  definitions = refl;
+  prototypes = refl;
+  more_funcs = function_of a.names h end body ∷ [];
+  funcs = refl;
+  more_globals = [];
+  globals = sym (append-nil a.globals);
+  more_mutexes = [];
+  mutexes = sym (append-nil a.mutexes);
 }
 
 longer : {A : Type 0} (xs ys zs more last : List A) → ys ≡ xs ++ more → zs ≡ ys ++ last → zs ≡ xs ++ (more ++ last)
@@ -145,9 +164,10 @@ pub protos_named : (D : List (List ℕ × Signature)) (rest : List RawItem) (a :
 protos_named D [] a same none = tt
 protos_named D (items.Global x w v literal ∷ rest) a same none = protos_named D rest (after_item (items.Global x w v literal) a) same (nil_right _ _ none)
 protos_named D (items.Mutex x ∷ rest) a same none = protos_named D rest (after_item (items.Mutex x) a) same (nil_right _ _ none)
-protos_named D (items.Prototype h ∷ rest) a same none =
-    (λ plain. subst (λ (d : List (List ℕ × Signature)). is_named h.name.text d ≡ true) same (proto_named a.names h (nil_left _ _ none) plain),
-    protos_named D rest (after_item (items.Prototype h) a) same (nil_right _ _ none))
+protos_named D (items.Prototype h ∷ rest) a same none = (
+  λ plain. subst (λ (d : List (List ℕ × Signature)). is_named h.name.text d ≡ true) same (proto_named a.names h (nil_left _ _ none) plain),
+  protos_named D rest (after_item (items.Prototype h) a) same (nil_right _ _ none),
+)
 protos_named D (items.Function h end body ∷ rest) a same none = protos_named D rest (after_item (items.Function h end body) a) same (nil_right _ _ none)
 
 -- ---- what a name means outside of the functions

@@ -4,6 +4,7 @@
 
 mod examples;
 mod fault;
+mod law;
 mod meaning;
 mod named;
 mod rules;
@@ -12,4 +13,5 @@ mod visible;
 
 pub use examples::limits_by_hand;
 pub use fault::{FrontFault, FrontKind};
+pub use law::accepted_is_well_made;
 pub use meaning::{Callee, Declared, Meaning, Signature};
