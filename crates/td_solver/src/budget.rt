@@ -2,9 +2,9 @@ ghost use Rattle.std.specs.Prelude.{◌≡◌, []};
 ghost use Rattle.std.specs.Arc.{arc_value};
 ghost use Rattle.gob_tree.specs.Formed.{IsFormed};
 ghost use Rattle.constraint_sys.specs.PostSolution.{IsPostSolution};
-ghost use Rattle.constraint_sys.specs.Sound.{IsSound, IsTurnable};
+ghost use Rattle.constraint_sys.specs.Sound.{IsShaped, IsSound, IsTurnable};
 ghost use Rattle.td_solver.specs.Ending.{IsSolvedBy, IsSpentBy, program_of_job, start_of_job};
-ghost use Rattle.td_solver.specs.Running.{Running};
+ghost use Rattle.td_solver.specs.Running.{Running, program_of};
 ghost use Rattle.td_solver.specs.declared.job.Solved.{Solved as TheSolved};
 
 use crate::job::{Job, Outcome, Progress};
@@ -17,6 +17,7 @@ pub fn solve(alloc: Global, job: Job, budget: u64) -> Outcome
     requires formed { IsFormed (program_of_job job) }
     requires turnable { IsTurnable (program_of_job job) (start_of_job job) }
     ensures clean { (solved : TheSolved) → result ≡ Outcome.Clean solved → IsSolvedBy job budget solved }
+    ensures shaped { (solved : TheSolved) → result ≡ Outcome.Clean solved → IsShaped (program_of_job job) solved.table }
     ensures spent { (run : Running) → result ≡ Outcome.Spent run → IsSpentBy job budget run }
     ensures post_solution { (solved : TheSolved) → result ≡ Outcome.Clean solved → IsSound (program_of_job job) (start_of_job job) → IsPostSolution (program_of_job job) solved.table }
 {
@@ -34,7 +35,7 @@ pub fn solve(alloc: Global, job: Job, budget: u64) -> Outcome
 fn solved(run: Run) -> Outcome
     requires { run.solving.dirty ≡ [] }
     ensures { (solved : TheSolved) × (result ≡ Outcome.Clean solved) × (solved.number ≡ run.number) × (arc_value solved.source ≡ run.source)
-        × (solved.table ≡ run.solving.table) × (solved.trace ≡ run.trace) }
+        × (solved.table ≡ run.solving.table) × (solved.trace ≡ run.trace) × IsShaped (program_of run) solved.table }
 {
     match run.finish() {
         Ok(solved) => Outcome::Clean(solved),

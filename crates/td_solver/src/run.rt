@@ -1,9 +1,9 @@
 ghost use Rattle.std.specs.Prelude.{◌≡◌, ◌≢◌, [], IfOk, IfErr, OnOk, OnErr, Contains};
 ghost use Rattle.std.specs.Arc.{arc_value};
 ghost use Rattle.gob_tree.specs.Formed.{IsFormed};
-ghost use Rattle.constraint_sys.specs.Sound.{IsTurnable};
+ghost use Rattle.constraint_sys.specs.Sound.{IsShaped, IsTurnable};
 ghost use Rattle.td_solver.specs.Ending.{begun, program_of_job, start_of_job};
-ghost use Rattle.td_solver.specs.Running.{GoesOnBy, GoesOnExactly, GoesOnWithin};
+ghost use Rattle.td_solver.specs.Running.{GoesOnBy, GoesOnExactly, GoesOnWithin, program_of};
 
 use crate::job::{Job, Progress, Solved};
 use c_source::Source;
@@ -77,7 +77,8 @@ impl Run {
 
     /// The table as it is now.
     pub fn table(&self) -> &Table
-        ensures { result.now ≡ self.now.solving.table }
+        ensures value { result.now ≡ self.now.solving.table }
+        ensures shaped { IsShaped (program_of self.now) result.now }
     {
         &self.table
     }
@@ -165,6 +166,7 @@ impl Run {
         ensures number { IfOk result (λ solved. solved.number ≡ self.number) }
         ensures source { IfOk result (λ solved. arc_value solved.source ≡ self.source) }
         ensures table { IfOk result (λ solved. solved.table ≡ self.solving.table) }
+        ensures shaped { IfOk result (λ solved. IsShaped (program_of self) solved.table) }
         ensures trace { IfOk result (λ solved. solved.trace ≡ self.trace) }
         ensures dirty { OnErr result (self.solving.dirty ≢ []) }
         ensures back { IfErr result (λ run. run ≡ self) }

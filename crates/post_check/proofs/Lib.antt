@@ -1,0 +1,4 @@
+pub mod Breaking
+pub mod Firsts
+pub mod OneFirst
+pub mod Within
