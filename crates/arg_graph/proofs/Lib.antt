@@ -1,3 +1,8 @@
 pub mod ByNumber
 pub mod Examples
 pub mod Joined
+pub mod NodeRows
+pub mod Order
+pub mod Standing
+pub mod Targets
+pub mod VertexLemmas

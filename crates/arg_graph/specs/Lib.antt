@@ -2,3 +2,4 @@ pub mod Vertices
 pub mod Offered
 pub mod Following
 pub mod Texts
+pub mod Graphs

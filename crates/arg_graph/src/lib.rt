@@ -3,6 +3,7 @@
 #![tactic(auto)]
 
 mod expressions;
+mod graph;
 mod labels;
 mod offered;
 mod pieces;
@@ -10,6 +11,7 @@ mod stack;
 mod vertex;
 
 pub use expressions::slot_names;
+pub use graph::{Graph, target};
 pub use labels::label_text;
 pub use stack::{Frame, Stack};
 pub use vertex::{Label, Step, Vertex};
