@@ -1,4 +1,5 @@
 pub mod Bounding
+pub mod Going
 pub mod Runs
 pub mod Steps
 pub mod Threads
