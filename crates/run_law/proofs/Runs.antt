@@ -50,7 +50,7 @@ first_globals p t post g within =
     subst (λ (n : ℤ). IsSomeAnd (number_at t g) (λ (v : Bounds). Describes v n)) (sym (initial_at p.globals g found.0 found.1))
     (covered (value_at t (Global g)) (between found.0.initial found.0.initial) found.0.initial (post.roots.globals_bounded g found.0 found.1) (itself found.0.initial))
 
-main_known : (p : Program) (t : TableValue) (owners : List (Option ℕ)) (thread : ℕ) → IsPostSolution p t → KnowsThread p t owners thread (new_frame p p.main [] ∷ []) (empty_key ∷ [])
+pub main_known : (p : Program) (t : TableValue) (owners : List (Option ℕ)) (thread : ℕ) → IsPostSolution p t → KnowsThread p t owners thread (new_frame p p.main [] ∷ []) (empty_key ∷ [])
 main_known p t owners thread post =
     let main = new_frame p p.main [] in
     let found = slice_get p.funcs p.main in
@@ -64,7 +64,7 @@ main_known p t owners thread post =
       refl,
     )
 
-one_thread : (frames : List Frame) (i : ℕ) (others : List Frame) → thread_at (frames ∷ []) i ≡ Some others → frames ≡ others
+pub one_thread : (frames : List Frame) (i : ℕ) (others : List Frame) → thread_at (frames ∷ []) i ≡ Some others → frames ≡ others
 one_thread frames zero others e = absurd (none-some others e)
 one_thread frames (suc zero) others e = same_Some frames others e
 one_thread frames (suc (suc i)) others e = absurd (none-some others e)

@@ -43,7 +43,7 @@ same_number : (a b : ℕ) → nat_eq a b ≡ true → a ≡ b
 same_number a b e = grind (arith, nat_tests)
 
 -- ---- an edge keeps the frame's function and its call, and starts threads at their entry
-new_waits : (f : ℕ) (values : List ℤ) (o : Option FuncGraph) → (new_frame_or f values o).waits ≡ None
+pub new_waits : (f : ℕ) (values : List ℤ) (o : Option FuncGraph) → (new_frame_or f values o).waits ≡ None
 new_waits f values None = refl
 new_waits f values (Some func) = refl
 

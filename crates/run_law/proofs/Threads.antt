@@ -27,10 +27,10 @@ own_frames threads zero mine old e = absurd (none-some old e)
 own_frames threads (suc i) mine old e = set_there threads i mine old e
 
 -- the frames of a thread after one thread got others: its own, or those that were there
-abbrev IsItsOwn : List (List Frame) → ℕ → List Frame → ℕ → List Frame → Type 0
+abbrev pub IsItsOwn : List (List Frame) → ℕ → List Frame → ℕ → List Frame → Type 0
 IsItsOwn threads thread mine i frames = ((i ≡ thread) × (mine ≡ frames)) ⊎ ((i ≢ thread) × (thread_at threads i ≡ Some frames))
 
-its_own : (threads : List (List Frame)) (thread : ℕ) (mine old : List Frame) (i : ℕ) (frames : List Frame) → thread_at threads thread ≡ Some old → thread_at (with_thread threads thread mine) i ≡ Some frames → IsItsOwn threads thread mine i frames
+pub its_own : (threads : List (List Frame)) (thread : ℕ) (mine old : List Frame) (i : ℕ) (frames : List Frame) → thread_at threads thread ≡ Some old → thread_at (with_thread threads thread mine) i ≡ Some frames → IsItsOwn threads thread mine i frames
 its_own threads thread mine old i frames there at = elim (cases_eq i thread) [
   | inl same ↦ inl (same, same_Some mine frames (sym (own_frames threads thread mine old there) ∙ subst (λ (j : ℕ). thread_at (with_thread threads thread mine) j ≡ Some frames) same at))
   | inr apart ↦ inr (apart, sym (other_thread threads thread i mine apart) ∙ at)
@@ -43,14 +43,14 @@ get_last (x ∷ xs) y z zero e = inl e
 get_last (x ∷ xs) y z (suc i) e = elim (get_last xs y z i e) [ inl there ↦ inl there | inr last ↦ inr (ap suc last.0, last.1) ]
 
 -- one more thread at the end
-more_thread : (threads : List (List Frame)) (new frames : List Frame) (i : ℕ) → thread_at (threads ++ new ∷ []) i ≡ Some frames → (thread_at threads i ≡ Some frames) ⊎ ((i ≡ length threads + 1) × (new ≡ frames))
+pub more_thread : (threads : List (List Frame)) (new frames : List Frame) (i : ℕ) → thread_at (threads ++ new ∷ []) i ≡ Some frames → (thread_at threads i ≡ Some frames) ⊎ ((i ≡ length threads + 1) × (new ≡ frames))
 more_thread threads new frames zero e = absurd (none-some frames e)
 more_thread threads new frames (suc i) e = elim (get_last threads new frames i e) [
   | inl there ↦ inl there
   | inr last ↦ inr (ap suc last.0 ∙ sym (add-one (length threads)), last.1)
 ]
 
-length_with : (threads : List (List Frame)) (thread : ℕ) (mine : List Frame) → length (with_thread threads thread mine) ≡ length threads
+pub length_with : (threads : List (List Frame)) (thread : ℕ) (mine : List Frame) → length (with_thread threads thread mine) ≡ length threads
 length_with threads zero mine = refl
 length_with threads (suc i) mine = length-set threads i mine
 
@@ -62,7 +62,7 @@ IfStarts (SetsGlobal g n) P = Unit {0}
 IfStarts (SetsOwner m owner) P = Unit {0}
 IfStarts (Starts frame) P = P frame
 
-length_owners : (c : Config Frame) (thread : ℕ) (mine : List Frame) (effect : Effect Frame) → length (after_effect c thread mine effect).owners ≡ length c.owners
+pub length_owners : (c : Config Frame) (thread : ℕ) (mine : List Frame) (effect : Effect Frame) → length (after_effect c thread mine effect).owners ≡ length c.owners
 length_owners c thread mine Keeps = refl
 length_owners c thread mine (SetsGlobal g n) = refl
 length_owners c thread mine (SetsOwner m owner) = length-set c.owners m owner
@@ -76,7 +76,7 @@ module _ (p : Program) (t : TableValue) (c : Config Frame) (thread : ℕ) (mine 
   state_stays slots (Bottom room) values other differ described = described
   state_stays slots (Reached xs locks) values other differ described = (described.0, described.1, effect_owners c thread other locks mine effect differ may described.2)
 
-  thread_stays : (other : ℕ) (frames : List Frame) (keys : List Key) → other ≢ thread → KnowsThread p t c.owners other frames keys → KnowsThread p t After other frames keys
+  pub thread_stays : (other : ℕ) (frames : List Frame) (keys : List Key) → other ≢ thread → KnowsThread p t c.owners other frames keys → KnowsThread p t After other frames keys
   thread_stays other [] keys differ known = absurd known
   thread_stays other (top ∷ below) [] differ known = absurd known
   thread_stays other (top ∷ below) (key ∷ keys) differ known =
@@ -94,7 +94,7 @@ module _ (p : Program) (t : TableValue) (c : Config Frame) (thread : ℕ) (mine 
     ]
 
 -- a thread that starts
-started : (p : Program) (t : TableValue) (owners : List (Option ℕ)) (threads : List (List Frame)) (thread : ℕ) (mine : List Frame) (frame : Frame) (i : ℕ) → i ≡ length (with_thread threads thread mine) + 1
+pub started : (p : Program) (t : TableValue) (owners : List (Option ℕ)) (threads : List (List Frame)) (thread : ℕ) (mine : List Frame) (frame : Frame) (i : ℕ) → i ≡ length (with_thread threads thread mine) + 1
     → DescribesFrame p owners (length threads + 1) (state_at p t frame.func empty_key frame.node) frame → (keys : List Key) × KnowsThread p t owners i (frame ∷ []) keys
 started p t owners threads thread mine frame i at described =
     let number : length threads + 1 ≡ i = omega (arith, at, length_with threads thread mine) in
