@@ -1,3 +1,4 @@
+pub mod ClauseExits
 pub mod Closing
 pub mod DeclarationExits
 pub mod Descent
@@ -10,6 +11,7 @@ pub mod Quiet
 pub mod Rows
 pub mod Shorter
 pub mod SimpleExits
+pub mod StatementExits
 pub mod Steps
 pub mod Unique
 pub mod UniqueStatement

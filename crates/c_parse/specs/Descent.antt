@@ -11,6 +11,7 @@ use Rattle.c_parse.specs.declared.raw.unit.RawHead.{RawHead}
 use Rattle.c_parse.specs.declared.raw.unit.RawItem.{RawItem}
 use Rattle.c_parse.specs.declared.stop.Sign.TheVariants as signs
 use Rattle.c_parse.specs.declared.terminal.Kind.{Kind}
+use Rattle.c_parse.specs.declared.terminal.Kind.TheVariants as kinds
 use Rattle.c_parse.specs.declared.terminal.Terminal.{Terminal}
 use Rattle.c_parse.specs.Grammar.{Next, ReadsName, ReadsInitial, ReadsMoreLocals, ReadsNumbers, ReadsMoreThreads, ReadsThreads, ReadsDecl, ReadsSimple, ReadsBare, ReadsGlobals, ReadsMoreGlobals, ReadsParam, ReadsMoreParams, ReadsNamed, ReadsTyped, ReadsOuter, ReadsItem, declared, within}
 use Rattle.c_parse.specs.Machine.{Part, sign, ident, condition, stmt, otherwise, do_end, first, test, last, globals, more_globals, param, more_params, run}
@@ -39,6 +40,12 @@ do_row d = stmt (suc d) ∷ do_end ∷ []
 
 abbrev pub for_row : ℕ → List Part
 for_row d = sign signs.OpenParen ∷ first ∷ test ∷ last ∷ stmt (suc d) ∷ []
+
+-- simple ";"
+pub record ReadsEnded (ts : List Terminal) (s : RawStmt) (rest : List Terminal) : Type 0 where
+  pub mid : List Terminal
+  pub reads : ReadsSimple (within 0) ts s mid (within 0)
+  pub next : Next kinds.Semicolon mid rest
 
 -- one name of a declaration of numbers: name [ "=" expr ]
 pub record ReadsLocal (here : Place) (w : Width) (ts : List Terminal) (p : RawPlaced) (rest : List Terminal) : Type 0 where

@@ -1,6 +1,7 @@
 //! The grammar of GobPie's C profile: tokens to trees with names as written, or the first fault.
 #![tactic(auto)]
 
+mod clause;
 mod declaration;
 mod expr_text;
 mod expression;
@@ -9,6 +10,7 @@ mod fault_of;
 mod law;
 mod raw;
 mod simple;
+mod statement;
 mod stop;
 mod terminal;
 mod terminals;

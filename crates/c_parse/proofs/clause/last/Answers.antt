@@ -1,0 +1,11 @@
+use Rattle.std.proofs.lemmas.Result.{err_from_is_err_and}
+use Rattle.c_parse.proofs.ClauseExits.{last_end_stop, last_found}
+use Rattle.c_parse.proofs.clause.last.Goals as goal
+
+pub returns-in_err-rest-in_default-kind : goal.returns-in_err-rest-in_default-kind
+returns-in_err-rest-in_default-kind c =
+    let p = err_from_is_err_and c.from_residual-in_err-rest-in_default-kind.result c.from_residual-in_err-rest-in_default-kind.ensures.1 in
+    rw (p.1, p.2) (record { found = tt; stop = last_end_stop c.in-Some.ensures.cases.0 c.in_default-kind.not-CloseParen c.in_ok-stmt-in_default-kind.ensures.found c.in_err-rest-in_default-kind.ensures.stop })
+
+pub returns-in_ok-last-in_default-kind : goal.returns-in_ok-last-in_default-kind
+returns-in_ok-last-in_default-kind c = record { found = last_found c.in-Some.ensures.cases.0 c.in_ok-stmt-in_default-kind.ensures.found c.in_ok-rest-in_default-kind.ensures.found c.in_ok-last-in_default-kind.ensures; stop = tt }
