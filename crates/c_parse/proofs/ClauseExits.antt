@@ -1,38 +1,25 @@
 -- What each exit of the descent through a part of a statement rests on.
-use Rattle.std.proofs.Common.{subst, append-nil, ◌<◌, ◌≤◌, ◌-◌, ◌+◌, arith, ◌≡◌, refl, sym, ap, ◌∙◌, ℕ, zero, suc, Bool, true, false, ◌&&◌, ℤ, List, [], ◌∷◌, ◌++◌, length, Option, Some, None, append_assoc}
-use Rattle.gob_tree.specs.declared.expr.Width.{Width}
-use Rattle.gob_tree.specs.declared.expr.BinOp.{BinOp}
+use Rattle.std.proofs.Common.{subst, ◌≡◌, refl, sym, ap, ◌∙◌, false, List, [], ◌∷◌, ◌++◌, Some, None}
 use Rattle.gob_tree.specs.declared.place.Place.{Place}
 use Rattle.c_parse.specs.declared.terminal.Terminal.{Terminal}
 use Rattle.c_parse.specs.declared.terminal.Kind.{Kind}
 use Rattle.c_parse.specs.declared.terminal.Kind.TheVariants as kinds
-use Rattle.c_parse.specs.declared.stop.Sign.{Sign}
 use Rattle.c_parse.specs.declared.stop.Sign.TheVariants as signs
-use Rattle.c_parse.specs.declared.stop.Trouble.TheVariants.{Bad, Deep}
-use Rattle.c_parse.specs.declared.raw.expr.RawName.{RawName}
 use Rattle.c_parse.specs.declared.raw.expr.RawExpr.{RawExpr}
-use Rattle.c_parse.specs.declared.raw.stmt.RawReturn.{RawReturn}
 use Rattle.c_parse.specs.declared.raw.stmt.RawStmt.{RawStmt}
 use Rattle.c_parse.specs.declared.raw.stmt.RawPlaced.{RawPlaced}
-use Rattle.c_parse.specs.declared.raw.unit.RawHead.{RawHead}
-use Rattle.c_parse.specs.declared.raw.unit.RawItem.{RawItem}
 use Rattle.c_parse.specs.Grammar as grammar
 use Rattle.c_parse.specs.Grammar.{Nesting, counted, entered, settled, ended, within, operator, top, begins_with, is_open_paren, is_equals, is_int, is_else, EndsChain, Next, ReadsName, ReadsOperator, ReadsLevel, ReadsChain, ReadsCall, ReadsArgs, ReadsMoreArgs, ReadsWhole, ReadsCondition, ReadsInitial, ReadsLongTail, ReadsType, ReadsLocals, ReadsMoreLocals, ReadsNumbers, ReadsThreads, ReadsMoreThreads, ReadsDecl, ReadsAfterName, ReadsHandle, ReadsSimple, ReadsValue, ReadsFirst, ReadsTest, ReadsLast, ReadsDoEnd, ReadsBare, ReadsStmt, ReadsElse, ReadsItems, ReadsLiteral, ReadsGlobals, ReadsMoreGlobals, ReadsAfterHead, ReadsParam, ReadsParamName, ReadsMoreParams, ReadsParams, ReadsThreadParam, ReadsThreadVoid, ReadsThreadName, ReadsVoided, ReadsNamed, ReadsTyped, ReadsMutexName, ReadsOuter, ReadsItem, ReadsUnit}
-use Rattle.c_parse.specs.Machine.{Effect, keeps, counts, ends_arg, enters, settles, effect, Part, Move, takes, skips, stops, Outcome, finished, troubled, sign, ident, settle, level, chain, call, args, more_args, whole, condition, initial, long_tail, type, locals, more_locals, numbers, threads, more_threads, decl, after_name, handle, simple, value, first, test, last, do_end, bare, stmt, otherwise, items, literal, number, globals, more_globals, after_head, param, param_name, more_params, params, thread_param, thread_void, thread_name, voided, named, typed, mutex_name, outer, unit_item, before, entering, move, moved, behind, settled_next, next, run, go_on, unless_over, is_sign, kind_of, Passes}
-use Rattle.c_parse.specs.Machine.{opens_operand, opens_type, opens_decl, opens_simple, opens_stmt, is_close_paren, is_semicolon, is_close_brace, is_comma, ends_value, ends_first, ends_items, ends_params, is_name, is_word_outside, is_storage, is_thread, is_worded}
-use Rattle.c_parse.specs.Machine as parts
-use Rattle.c_parse.proofs.Opening.{effect_stays, run_over, taken_at, taken, taken_name, opened_level, opened_whole, opened_numbers, opened_param, opened_args, opened_value, opened_test, opened_last, opened_first, opened_bare, opened_items, opened_outer, opened_decl, opened_number_first, opened_globals, opened_params, opened_param_name, opened_named, opened_unit_item, opened_decl_item, opened_stmt_here, chain_over, call_over, initial_over, long_tail_over, otherwise_over, settle_over}
+use Rattle.c_parse.specs.Machine.{keeps, Part, sign, whole, condition, numbers, simple, value, first, test, last, do_end, move, run, is_sign}
+use Rattle.c_parse.specs.Machine.{opens_type, is_close_paren, is_semicolon, ends_value, ends_first}
+use Rattle.c_parse.proofs.Opening.{opened_value, opened_test, opened_last, opened_first, opened_number_first}
 use Rattle.c_parse.specs.declared.stop.Stop.{Stop}
-use Rattle.c_parse.specs.declared.stop.Stop.TheVariants.{At, Memory}
-use Rattle.gob_tree.specs.declared.expr.UnOp.TheVariants.{Neg, Not}
-use Rattle.c_parse.specs.declared.raw.expr.RawExpr.TheVariants as exprs
-use Rattle.c_parse.specs.Machine.{Breaks, BreaksIn, BreaksEver, BreaksUnit, IsOver, ReadsOnto, want}
-
+use Rattle.c_parse.specs.Machine.{Breaks, BreaksEver}
 use Rattle.c_parse.proofs.Passing.{passes_whole, passes_condition, passes_simple}
 use Rattle.c_parse.proofs.Descent.{next_is, here, here_ever, behind_it, opens_row, is_row}
 use Rattle.c_parse.proofs.Rows.{by_row, signed_row, behind_sign}
 use Rattle.c_parse.specs.Descent.{NumbersOnto}
-use Rattle.c_parse.specs.declared.raw.stmt.RawReturn.TheVariants.{Plain, Null, Value}
+use Rattle.c_parse.specs.declared.raw.stmt.RawReturn.TheVariants.{Plain, Null}
 
 -- what follows `return`
 

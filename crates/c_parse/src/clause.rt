@@ -38,7 +38,10 @@ pub(crate) fn value(alloc: Global, tokens: &[Terminal]) -> Result<(RawReturn, &[
 
 /// The first part of a `for`: a declaration that begins with a type, or `[ simple ] ";"`.
 #[tactic(auto, using(crate::proofs::ClauseExits::no_first_found, crate::proofs::ClauseExits::number_first_found, crate::proofs::ClauseExits::simple_first_found, crate::proofs::ClauseExits::int_first_stop, crate::proofs::ClauseExits::long_first_stop, crate::proofs::ClauseExits::first_simple_stop, crate::proofs::ClauseExits::first_end_stop))]
-pub(crate) fn first(alloc: Global, tokens: &[Terminal]) -> Result<(Seq<RawPlaced>, &[Terminal]), Stop>
+pub(crate) fn first(
+    alloc: Global,
+    tokens: &[Terminal],
+) -> Result<(Seq<RawPlaced>, &[Terminal]), Stop>
     ensures found { IfOk result (λ read. ReadsFirst (within 0) tokens.now read.0 read.1.now (within 0)) }
     ensures stop { IfErr result (Breaks machine.Part.first (within 0) tokens.now) }
 {
@@ -64,7 +67,10 @@ pub(crate) fn first(alloc: Global, tokens: &[Terminal]) -> Result<(Seq<RawPlaced
 
 /// The condition of a `for`: `[ expr ] ";"`.
 #[tactic(auto, using(crate::proofs::ClauseExits::no_test_found, crate::specs::Grammar::test, crate::proofs::ClauseExits::test_whole_stop, crate::proofs::ClauseExits::test_end_stop))]
-pub(crate) fn test(alloc: Global, tokens: &[Terminal]) -> Result<(Option<RawExpr>, &[Terminal]), Stop>
+pub(crate) fn test(
+    alloc: Global,
+    tokens: &[Terminal],
+) -> Result<(Option<RawExpr>, &[Terminal]), Stop>
     ensures found { IfOk result (λ read. ReadsTest (within 0) tokens.now read.0 read.1.now (within 0)) }
     ensures stop { IfErr result (Breaks machine.Part.test (within 0) tokens.now) }
 {

@@ -14,9 +14,9 @@ items-returns-then-is_close_brace-clause-found t c =
 
 pub bare-returns-in_default-kind : goal.bare-returns-in_default-kind
 bare-returns-in_default-kind t c = record {
-    found = IfOk-weaker c.ended.result _ _ (λ read o. simple_found o) c.ended.ensures.found;
-    stop = IfErr-weaker c.ended.result _ _ (λ s b. simple_stop c.in-Some.ensures.cases.0 (unworded c.in-Some.token.now.kind c.in_default-kind.not-Semicolon c.in_default-kind.not-OpenBrace c.in_default-kind.not-If c.in_default-kind.not-While c.in_default-kind.not-Do c.in_default-kind.not-For c.in_default-kind.not-Break c.in_default-kind.not-Continue c.in_default-kind.not-Return) b) c.ended.ensures.stop;
-  }
+  found = IfOk-weaker c.ended.result _ _ (λ read o. simple_found o) c.ended.ensures.found;
+  stop = IfErr-weaker c.ended.result _ _ (λ s b. simple_stop c.in-Some.ensures.cases.0 (unworded c.in-Some.token.now.kind c.in_default-kind.not-Semicolon c.in_default-kind.not-OpenBrace c.in_default-kind.not-If c.in_default-kind.not-While c.in_default-kind.not-Do c.in_default-kind.not-For c.in_default-kind.not-Break c.in_default-kind.not-Continue c.in_default-kind.not-Return) b) c.ended.ensures.stop;
+}
 
 pub if_else-returns-in_err-other-clause-stop : goal.if_else-returns-in_err-other-clause-stop
 if_else-returns-in_err-other-clause-stop t c =

@@ -1,4 +1,4 @@
-use Rattle.std.proofs.Common.{◌≡◌, ◌≤◌, ◌+◌, ◌*◌, List, length}
+use Rattle.std.proofs.Common.{◌≤◌, ◌+◌, ◌*◌, length}
 use Rattle.c_parse.specs.Machine as machine
 use Rattle.c_parse.specs.Grammar.{within}
 use Rattle.c_parse.proofs.Descent.{RunsOn}
