@@ -24,7 +24,7 @@ moves_append p (x ∷ xs) ys c = go (after_move p c x) (λ next. moves_append p 
     go (Some next) rest = rest next
 
 -- the moves of a walk lead to its configuration
-abbrev Leads : Program → Walked → Type 0
+abbrev pub Leads : Program → Walked → Type 0
 Leads p w = after_moves p w.moves (first_graph p) ≡ Some w.config
 
 abbrev Keeps : Program → (Walked → Option Walked) → Type 0
@@ -88,7 +88,7 @@ choices_keep : (m : MarkedProgram) (choices : List Choice) → Keeps m.program (
 choices_keep m [] w w' leads e = let same : w ≡ w' = cc in subst (Leads m.program) same leads
 choices_keep m (choice ∷ choices) w w' leads e = then_keeps m.program (after_choice m choice w) (after_choices m choices) w' (λ v q. choice_keeps m choice w v leads q) (choices_keep m choices) e
 
-run_leads : (m : MarkedProgram) (choices : List Choice) (w : Walked) → graph_run m choices ≡ Some w → Leads m.program w
+pub run_leads : (m : MarkedProgram) (choices : List Choice) (w : Walked) → graph_run m choices ≡ Some w → Leads m.program w
 run_leads m choices w e =
     let start : Walked = record { moves = []; config = first_graph m.program } in
     then_keeps m.program (after_silent m 1 start) (after_choices m choices) w (λ v q. silent_keeps m 1 start v refl q) (choices_keep m choices) e
