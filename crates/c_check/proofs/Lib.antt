@@ -2,6 +2,11 @@ pub mod ExprForms
 pub mod Firsts
 pub mod RawFolds
 pub mod RawLevels
+pub mod Spelled
+pub mod SpelledForms
+pub mod SpelledStmts
+pub mod SpelledTokens
+pub mod SpelledUnits
 pub mod WellMade
 pub mod WellMadeBodies
 pub mod WellMadeExprs

@@ -1,11 +1,30 @@
--- What the checks give together.
+-- What the checks and the grammar give together.
 --
--- A reader should check: that nothing is asked of the tree but what its spelling gives.
-use Rattle.std.specs.Prelude.{◌≡◌, []}
+-- A reader should check: that nothing is asked of the tree but what its spelling gives, and nothing of the text.
+use Rattle.std.specs.Prelude.{◌≡◌, ℕ, pos, int_le, Bool, true, ◌&&◌, List, []}
+use Rattle.gob_tree.specs.Widths.{fits}
 use Rattle.gob_tree.specs.WellMade.{IsWellMade}
+use Rattle.c_lex.specs.Tokens.{AreTokens}
+use Rattle.c_lex.specs.declared.token.Token.{Token}
+use Rattle.c_parse.specs.Grammar.{IsUnit}
+use Rattle.c_parse.specs.Terminals.{terminals_of}
+use Rattle.c_parse.specs.declared.raw.unit.RawItem.{RawItem}
 use Rattle.c_parse.specs.declared.raw.unit.RawUnit.{RawUnit}
+use Rattle.c_parse.specs.declared.terminal.Kind.{Kind}
+use Rattle.c_parse.specs.declared.terminal.Kind.TheVariants as kinds
 use Rattle.c_check.specs.Spelled.{IsSpelled}
 use Rattle.c_check.specs.Units.{unit_faults, unit_of}
+
+-- a number of a token has no sign and is in the width that it is written in
+abbrev pub is_plain : Kind → Bool
+is_plain (kinds.Number n w) = int_le (pos 0) n && fits w n
+is_plain other = true
+
+-- what the grammar gives of the tokens of a text is spelled so
+abbrev pub UnitsAreSpelled : Type 0
+UnitsAreSpelled =
+    (text : List ℕ) (tokens : List Token) (items : List RawItem)
+    → AreTokens text tokens → IsUnit (terminals_of text tokens) items → IsSpelled items
 
 -- a tree without a fault becomes a unit that may run and become graphs
 abbrev pub AcceptedIsWellMade : Type 0
