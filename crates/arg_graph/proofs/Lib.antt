@@ -2,7 +2,6 @@ pub mod ByNumber
 pub mod Examples
 pub mod Joined
 pub mod NodeRows
-pub mod Order
 pub mod Standing
 pub mod Targets
 pub mod VertexLemmas

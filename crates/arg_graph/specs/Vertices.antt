@@ -4,26 +4,15 @@
 use Rattle.std.specs.Prelude.{ℕ, Bool, true, false, ◌&&◌, nat_eq, List, [], ◌∷◌, Option, None, Some, filter, if◌then◌else◌, IsTrue}
 use Rattle.std.specs.List.{flat_map}
 use Rattle.std.specs.Map.{keys_of}
-use Rattle.std.specs.Ordering.{is_lt}
 use Rattle.state_dom.specs.StateValue.{Bottom, Reached}
 use Rattle.constraint_sys.specs.declared.unknown.Key.{Key}
 use Rattle.constraint_sys.specs.declared.unknown.Unknown.{Unknown}
 use Rattle.constraint_sys.specs.declared.unknown.Unknown.TheVariants.{Point, Global}
 use Rattle.constraint_sys.specs.declared.value.Value.{Value}
 use Rattle.constraint_sys.specs.declared.value.Value.TheVariants.{State, Number}
-use Rattle.constraint_sys.specs.Table.{TableValue, empty_key, unknown_cmp, value_at}
+use Rattle.constraint_sys.specs.Table.{TableValue, empty_key, value_at}
+use Rattle.constraint_sys.specs.UnknownOrder.{in_unknown_order}
 use Rattle.arg_graph.specs.declared.vertex.Vertex.{Vertex}
-
--- ---- lists in the order of unknowns
-
--- an unknown put before the first that isn't below it
-abbrev pub put_in_order : Unknown → List Unknown → List Unknown
-put_in_order u [] = u ∷ []
-put_in_order u (v ∷ vs) = if is_lt (unknown_cmp v u) then v ∷ put_in_order u vs else u ∷ v ∷ vs
-
-abbrev pub in_unknown_order : List Unknown → List Unknown
-in_unknown_order [] = []
-in_unknown_order (u ∷ us) = put_in_order u (in_unknown_order us)
 
 -- ---- points
 

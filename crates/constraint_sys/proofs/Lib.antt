@@ -24,6 +24,7 @@ pub mod Rooms
 pub mod SameMarks
 pub mod Shaping
 pub mod SoundStart
+pub mod SortedUnknowns
 pub mod Starting
 pub mod Turning
 pub mod Zeros

@@ -8,3 +8,4 @@ pub mod Sound
 pub mod Table
 pub mod Transfer
 pub mod Turn
+pub mod UnknownOrder

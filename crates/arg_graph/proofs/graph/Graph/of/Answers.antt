@@ -9,7 +9,7 @@ use Rattle.arg_graph.specs.Offered.{offered}
 use Rattle.arg_graph.specs.Vertices.{is_at, is_vertex, vertex_of, vertices_of}
 use Rattle.arg_graph.specs.declared.vertex.Step.{Step}
 use Rattle.arg_graph.specs.declared.vertex.Vertex.{Vertex}
-use Rattle.arg_graph.proofs.Order.{sorted_is_in_order}
+use Rattle.constraint_sys.proofs.SortedUnknowns.{sorted_is_in_order}
 use Rattle.arg_graph.proofs.Standing.{offers_none, vertex_within, vertices_all, vertices_are}
 use Rattle.arg_graph.proofs.graph.Graph.of.Goals as goal
 

@@ -9,7 +9,7 @@ use Rattle.std.proofs.lemmas.List.Sums.{sum_by-cons}
 use Rattle.constraint_sys.specs.contracts.unknown.UnknownOrd.TheImpl.Laws.{total-law, matches_eq-law}
 use Rattle.constraint_sys.specs.declared.unknown.Unknown.{Unknown}
 use Rattle.constraint_sys.specs.Table.{unknown_cmp, unknown_eq}
-use Rattle.arg_graph.specs.Vertices.{put_in_order, in_unknown_order}
+use Rattle.constraint_sys.specs.UnknownOrder.{put_in_order, in_unknown_order}
 
 less_is : (r : Ordering) → is_lt r ≡ true → r ≡ Less
 less_is Less h = refl
