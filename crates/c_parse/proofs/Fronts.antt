@@ -202,7 +202,7 @@ item_no_skip kinds.Static = refl
 item_no_skip kinds.Extern = refl
 item_no_skip k = outer_no_skip k
 
-opened_unit : (a : Nesting) (t : Terminal) (ts : List Terminal) → run [] a (t ∷ ts) ≡ run (unit_item ∷ []) a (t ∷ ts)
+pub opened_unit : (a : Nesting) (t : Terminal) (ts : List Terminal) → run [] a (t ∷ ts) ≡ run (unit_item ∷ []) a (t ∷ ts)
 opened_unit a t ts = ap (λ (o : Option (Effect × List Part)). unless_over a.over (go_on o (λ e qs. run qs (effect e a (t ∷ ts)) ts) (length (t ∷ ts)))) (go (parts.item_move t.kind) (item_no_skip t.kind))
   where
     go : (m : Move) → is_skip m ≡ false → moved m [] None ≡ moved m [] (behind unit_item (next [] t.kind))

@@ -4,6 +4,7 @@ pub mod DeclarationExits
 pub mod Descent
 pub mod Expressions
 pub mod Fronts
+pub mod HeadExits
 pub mod OneFault
 pub mod Opening
 pub mod Passing
@@ -16,3 +17,4 @@ pub mod Steps
 pub mod Unique
 pub mod UniqueStatement
 pub mod UniqueUnit
+pub mod UnitExits

@@ -1,5 +1,6 @@
 ghost use Rattle.std.specs.Prelude.{◌≡◌};
 ghost use Rattle.c_parse.specs.declared.fault.ExprFault.TheVariants.{Memory as WantOfMemory};
+ghost use Rattle.c_parse.specs.declared.fault.ParseFault.TheVariants.{Memory as MemoryOfUnit};
 
 use gob_tree::{Memory, Place};
 use thiserror::Error;
@@ -38,5 +39,13 @@ impl From<Memory> for ExprFault {
 
     fn from(_want: Memory) -> ExprFault {
         ExprFault::Memory
+    }
+}
+
+impl From<Memory> for ParseFault {
+    ghost from_gives = { λ _ fault. fault ≡ MemoryOfUnit };
+
+    fn from(_want: Memory) -> ParseFault {
+        ParseFault::Memory
     }
 }

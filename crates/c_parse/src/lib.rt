@@ -7,6 +7,7 @@ mod expr_text;
 mod expression;
 mod fault;
 mod fault_of;
+mod head;
 mod law;
 mod raw;
 mod simple;
@@ -14,6 +15,8 @@ mod statement;
 mod stop;
 mod terminal;
 mod terminals;
+mod unit;
+mod unit_text;
 
 pub use expr_text::{one_expression, parse_expr};
 pub use fault::{ExprFault, ParseFault};
@@ -22,6 +25,7 @@ pub use raw::{
     RawExpr, RawHead, RawItem, RawName, RawParam, RawPlaced, RawReturn, RawStmt, RawUnit,
 };
 pub use terminal::{Kind, Terminal};
+pub use unit_text::parse;
 
 #[cfg(test)]
 mod tests;
