@@ -1,0 +1,5 @@
+pub mod Levels
+pub mod Spreading
+pub mod Turning
+pub mod Choosing
+pub mod ChainExamples

@@ -1,0 +1,4 @@
+pub mod Walk
+pub mod Least
+pub mod Choice
+pub mod Chains

@@ -1,0 +1,85 @@
+//! The fewest steps from each vertex to one.
+ghost use Rattle.std.specs.Prelude.{◌≡◌, ◌⊎◌, ◌↔◌, ◌<◌, ◌≤◌, ◌^◌, ◌+◌, ℕ, List, [], None, Some, IfOk, OnOk, Contains, length};
+ghost use Rattle.arg_chain.specs.Walk.{IsGraph, IsDistance, IsWalk, known_at, before_at, IsBeforeOne, Spreads};
+ghost use Rattle.arg_chain.specs.declared.hop.Hop.{Hop as TheHop};
+
+use crate::hop::Hop;
+use crate::turned::turned;
+use gob_tree::Memory;
+use std::alloc::Global;
+
+/// For each vertex the fewest steps from it to a target; `None` exactly where no steps lead there.
+pub(crate) fn distances(
+    alloc: Global,
+    graph: &[Vec<Hop>],
+    target: u32,
+) -> Result<Vec<Option<u32>>, Memory>
+    requires graph { IsGraph graph.now }
+    requires few { length graph.now < 2 ^ 32 }
+    requires target { target < length graph.now }
+    ensures len { IfOk result (λ ds. length ds.items ≡ length graph.now) }
+    ensures known { (u n : ℕ) → IfOk result (λ ds. known_at ds.items u ≡ Some n → IsDistance graph.now target u n) }
+    ensures unknown { (u : ℕ) → IfOk result (λ ds. known_at ds.items u ≡ None → (ss : List TheHop) → IsWalk graph.now u ss target → ⊥) }
+{
+    let before = turned(alloc, graph)?;
+    let mut known = vec![in alloc; None; graph.len()]?;
+    let mut level: u32 = 0;
+    let mut front = Vec::new(alloc);
+    reach(&mut known, &mut front, target, level)?;
+    'levels: while !front.is_empty() {
+        level += 1;
+        front = spread(alloc, &before, &mut known, &front, level)?;
+    }
+    Ok(known)
+}
+
+/// One level more: the vertices from which a step leads to the front, and that weren't known.
+fn spread(
+    alloc: Global,
+    before: &[Vec<u32>],
+    known: &mut Vec<Option<u32>>,
+    front: &[u32],
+    level: u32,
+) -> Result<Vec<u32>, Memory>
+    requires len { length known.old.items ≡ length before.now }
+    requires front { (w : ℕ) → Contains front.now w → w < length before.now }
+    requires before { (w u : ℕ) → Contains (before_at before.now w) u → u < length before.now }
+    ensures { IfOk result (λ next. Spreads known.old.items [] (IsBeforeOne before.now front.now) level known.new.items next.items) }
+{
+    let mut next = Vec::new(alloc);
+    for w in front {
+        reach_each(known, &mut next, &before[*w as usize], level)?;
+    }
+    Ok(next)
+}
+
+fn reach_each(
+    known: &mut Vec<Option<u32>>,
+    next: &mut Vec<u32>,
+    us: &[u32],
+    level: u32,
+) -> Result<(), Memory>
+    requires { (u : ℕ) → Contains us.now u → u < length known.old.items }
+    ensures { OnOk result (Spreads known.old.items next.old.items (Contains us.now) level known.new.items next.new.items) }
+{
+    for u in us {
+        reach(known, next, *u, level)?;
+    }
+    Ok(())
+}
+
+fn reach(
+    known: &mut Vec<Option<u32>>,
+    next: &mut Vec<u32>,
+    u: u32,
+    level: u32,
+) -> Result<(), Memory>
+    requires { u < length known.old.items }
+    ensures { OnOk result (Spreads known.old.items next.old.items (λ x. x ≡ u) level known.new.items next.new.items) }
+{
+    if known[u as usize].is_none() {
+        known[u as usize] = Some(level);
+        next.push(u)?;
+    }
+    Ok(())
+}

@@ -1,0 +1,168 @@
+//! The least of the shortest routes over numbered vertices.
+ghost use Rattle.std.specs.Prelude.{◌≡◌, ◌⊎◌, ◌↔◌, ◌<◌, ◌≤◌, ◌^◌, ◌+◌, ℕ, List, [], None, Some, true, IfOk, IfSome, IfNone, IsTrue, Contains, length};
+ghost use Rattle.arg_chain.specs.Walk.{IsGraph, known_at, steps_at};
+ghost use Rattle.arg_chain.specs.Least.{IsRoute, IsLeastRoute};
+ghost use Rattle.arg_chain.specs.Choice.{IsLeastOf, IsLeastStep, IsGreedy, CanStep, IsAtRoot, IsTarget, IsEdgeTo, least_with, least_known};
+ghost use Rattle.arg_chain.specs.declared.hop.Hop.{Hop as TheHop};
+
+use crate::distances::distances;
+use crate::hop::Hop;
+use gob_tree::Memory;
+use std::alloc::Global;
+
+/// A route: a root, and the hops that lead from it.
+#[derive(Drop)]
+pub struct Route {
+    pub root: u32,
+    pub steps: Vec<Hop>,
+}
+
+/// The least of the shortest routes from a root to a target; `None` exactly where there is none.
+/// `Memory` is want of memory.
+pub fn least_route(
+    alloc: Global,
+    graph: &[Vec<Hop>],
+    roots: &[u32],
+    target: u32,
+) -> Result<Option<Route>, Memory>
+    requires graph { IsGraph graph.now }
+    requires few { length graph.now < 2 ^ 32 }
+    requires roots { (r : ℕ) → Contains roots.now r → r < length graph.now }
+    requires target { target < length graph.now }
+    ensures some { IfOk result (λ o. IfSome o (λ s. IsLeastRoute graph.now roots.now target s.root s.steps.items)) }
+    ensures none { IfOk result (λ o. IfNone o ((root : ℕ) (steps : List TheHop) → IsRoute graph.now roots.now target root steps → ⊥)) }
+{
+    let known = distances(alloc, graph, target)?;
+    match least_distance(roots, &known) {
+        Some(n) => {
+            let root = nearest(roots, &known, n);
+            let steps = least_steps(alloc, graph, &known, root, n)?;
+            Ok(Some(Route { root, steps }))
+        }
+        None => Ok(None),
+    }
+}
+
+/// The fewest steps from one of the roots.
+fn least_distance(roots: &[u32], known: &[Option<u32>]) -> Option<u32>
+    requires { (r : ℕ) → Contains roots.now r → r < length known.now }
+    ensures { IsLeastOf (λ n. (r : ℕ) × Contains roots.now r × (known_at known.now r ≡ Some n)) result }
+{
+    let mut best = None;
+    for r in roots {
+        best = nearer(best, known[*r as usize]);
+    }
+    best
+}
+
+fn nearer(best: Option<u32>, n: Option<u32>) -> Option<u32>
+    ensures { result ≡ least_known best n }
+{
+    match n {
+        Some(n) => improved(best, n, true),
+        None => best,
+    }
+}
+
+fn improved(best: Option<u32>, x: u32, passes: bool) -> Option<u32>
+    ensures { result ≡ least_with best x passes }
+{
+    if !passes {
+        return best;
+    }
+    match best {
+        Some(b) => Some(if x < b { x } else { b }),
+        None => Some(x),
+    }
+}
+
+fn is_at(known: Option<u32>, n: u32) -> bool
+    ensures { IsTrue result ↔ (known ≡ Some n) }
+{
+    match known {
+        Some(m) => m == n,
+        None => false,
+    }
+}
+
+/// The least root that is so many steps away.
+fn nearest(roots: &[u32], known: &[Option<u32>], n: u32) -> u32
+    requires roots { (r : ℕ) → Contains roots.now r → r < length known.now }
+    requires there { (r : ℕ) × IsAtRoot roots.now known.now n r }
+    ensures { IsLeastOf (IsAtRoot roots.now known.now n) (Some result) }
+{
+    let mut best = None;
+    for r in roots {
+        best = improved(best, *r, is_at(known[*r as usize], n));
+    }
+    match best {
+        Some(r) => r,
+        None => unreachable!(),
+    }
+}
+
+/// From a vertex that many steps away the least step at each vertex, by where it leads and then by its
+/// edge.
+fn least_steps(
+    alloc: Global,
+    graph: &[Vec<Hop>],
+    known: &[Option<u32>],
+    root: u32,
+    n: u32,
+) -> Result<Vec<Hop>, Memory>
+    requires graph { IsGraph graph.now }
+    requires len { length known.now ≡ length graph.now }
+    requires root { known_at known.now root ≡ Some n }
+    requires can { (u d : ℕ) → known_at known.now u ≡ Some (d + 1) → CanStep (steps_at graph.now u) known.now d }
+    ensures { IfOk result (λ ss. IsGreedy graph.now known.now root ss.items × (length ss.items ≡ n)) }
+{
+    let mut steps = Vec::new(alloc);
+    let mut at = root;
+    let mut left = n;
+    while left > 0 {
+        left -= 1;
+        let step = least_step(&graph[at as usize], known, left);
+        steps.push(step)?;
+        at = step.to;
+    }
+    Ok(steps)
+}
+
+fn least_step(steps: &[Hop], known: &[Option<u32>], d: u32) -> Hop
+    requires within { (s : TheHop) → Contains steps.now s → s.to < length known.now }
+    requires can { CanStep steps.now known.now d }
+    ensures { IsLeastStep steps.now known.now d result }
+{
+    let to = least_target(steps, known, d);
+    let edge = least_edge(steps, to);
+    Hop { edge, to }
+}
+
+fn least_target(steps: &[Hop], known: &[Option<u32>], d: u32) -> u32
+    requires within { (s : TheHop) → Contains steps.now s → s.to < length known.now }
+    requires can { CanStep steps.now known.now d }
+    ensures { IsLeastOf (IsTarget steps.now known.now d) (Some result) }
+{
+    let mut best = None;
+    for step in steps {
+        best = improved(best, step.to, is_at(known[step.to as usize], d));
+    }
+    match best {
+        Some(to) => to,
+        None => unreachable!(),
+    }
+}
+
+fn least_edge(steps: &[Hop], to: u32) -> u32
+    requires { (s : TheHop) × Contains steps.now s × (s.to ≡ to) }
+    ensures { IsLeastOf (IsEdgeTo steps.now to) (Some result) }
+{
+    let mut best = None;
+    for step in steps {
+        best = improved(best, step.edge, step.to == to);
+    }
+    match best {
+        Some(edge) => edge,
+        None => unreachable!(),
+    }
+}

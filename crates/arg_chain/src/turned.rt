@@ -1,0 +1,52 @@
+//! Where the steps of a graph come from.
+ghost use Rattle.std.specs.Prelude.{◌≡◌, ◌⊎◌, ◌↔◌, ◌<◌, ◌≤◌, ◌^◌, ℕ, IfOk, OnOk, Contains, length};
+ghost use Rattle.arg_chain.specs.Walk.{IsGraph, steps_at, before_at, LeadsTo, HasStep};
+
+use crate::hop::Hop;
+use gob_tree::Memory;
+use std::alloc::Global;
+
+/// For each vertex those from which a step leads to it.
+pub(crate) fn turned(alloc: Global, graph: &[Vec<Hop>]) -> Result<Vec<Vec<u32>>, Memory>
+    requires graph { IsGraph graph.now }
+    requires few { length graph.now ≤ 2 ^ 32 }
+    ensures len { IfOk result (λ t. length t.items ≡ length graph.now) }
+    ensures members { (u w : ℕ) → IfOk result (λ t. Contains (before_at t.items w) u ↔ HasStep graph.now u w) }
+{
+    let mut rows = no_rows(alloc, graph.len())?;
+    for (u, steps) in graph.iter().enumerate() {
+        add_each(&mut rows, steps, u as u32)?;
+    }
+    Ok(rows)
+}
+
+fn no_rows(alloc: Global, vertices: usize) -> Result<Vec<Vec<u32>>, Memory>
+    ensures len { IfOk result (λ t. length t.items ≡ vertices) }
+    ensures none { (u w : ℕ) → IfOk result (λ t. Contains (before_at t.items w) u → ⊥) }
+{
+    let mut rows = Vec::new(alloc);
+    for _ in 0..vertices {
+        rows.push(Vec::new(alloc))?;
+    }
+    Ok(rows)
+}
+
+fn add_each(rows: &mut Vec<Vec<u32>>, steps: &[Hop], u: u32) -> Result<(), Memory>
+    requires { (w : ℕ) → LeadsTo steps.now w → w < length rows.old.items }
+    ensures len { OnOk result (length rows.new.items ≡ length rows.old.items) }
+    ensures members { (w x : ℕ) → OnOk result (Contains (before_at rows.new.items w) x ↔ (Contains (before_at rows.old.items w) x ⊎ (LeadsTo steps.now w × (x ≡ u)))) }
+{
+    for step in steps {
+        add(rows, step.to, u)?;
+    }
+    Ok(())
+}
+
+fn add(rows: &mut Vec<Vec<u32>>, w: u32, u: u32) -> Result<(), Memory>
+    requires { w < length rows.old.items }
+    ensures len { OnOk result (length rows.new.items ≡ length rows.old.items) }
+    ensures members { (y x : ℕ) → OnOk result (Contains (before_at rows.new.items y) x ↔ (Contains (before_at rows.old.items y) x ⊎ ((y ≡ w) × (x ≡ u)))) }
+{
+    rows[w as usize].push(u)?;
+    Ok(())
+}
