@@ -37,20 +37,20 @@ extends_guards silent from e p q d = extends_then d _ _ (extends_edge silent fro
 
 -- ---- hoisting
 
-abbrev HoistExtends : Hoisting → Type 0
+abbrev pub HoistExtends : Hoisting → Type 0
 HoistExtends h = (place : Place) (s : HoistState) → Extends s.flow (h.hoist place s).1.flow
 
-temp_extends : (w : Width) (o : Option ℕ) (s : HoistState) → Extends s.flow (taking w o s).flow
+pub temp_extends : (w : Width) (o : Option ℕ) (s : HoistState) → Extends s.flow (taking w o s).flow
 temp_extends w None s = record { more = []; edges = append_nil s.flow.edges }
 temp_extends w (Some k) s = extends_none s.flow
 
-fetch_extends : (place : Place) (w : Width) (act : ℕ → Action) (s : HoistState) → Extends s.flow (fetch place w act s).1.flow
+pub fetch_extends : (place : Place) (w : Width) (act : ℕ → Action) (s : HoistState) → Extends s.flow (fetch place w act s).1.flow
 fetch_extends place w act s =
     extends_then s.flow (with_temp w s).flow _ (temp_extends w (free_temp w s) s)
     (extends_then (with_temp w s).flow (with_node place (with_temp w s).flow) _ (extends_node place (with_temp w s).flow)
     (extends_edge false (with_temp w s).at (act (temp_slot w s)) (next_node (with_temp w s).flow) (with_node place (with_temp w s).flow)))
 
-all_extend : (es : List Hoisting) → Each HoistExtends es → (place : Place) (s : HoistState) → Extends s.flow (hoist_all es place s).1.flow
+pub all_extend : (es : List Hoisting) → Each HoistExtends es → (place : Place) (s : HoistState) → Extends s.flow (hoist_all es place s).1.flow
 all_extend [] all place s = extends_none s.flow
 all_extend (e ∷ es) all place s = extends_then s.flow (e.hoist place s).1.flow _ (all.0 place s) (all_extend es all.1 place (e.hoist place s).1)
 
@@ -74,15 +74,15 @@ if_extends true op stop right place x hr =
     (logic_extends stop right place (temp_slot W32 x.1) (next_node x.1.flow) x.0 (with_temp W32 x.1) hr)
 if_extends false op stop right place x hr = hr place x.1
 
-binary_extends : (o : Option Bool) (op : BinOp) (right : Hoisting) (place : Place) (x : Hoisted Expr) → HoistExtends right → Extends x.1.flow (binary_join op o right place x).1.flow
+pub binary_extends : (o : Option Bool) (op : BinOp) (right : Hoisting) (place : Place) (x : Hoisted Expr) → HoistExtends right → Extends x.1.flow (binary_join op o right place x).1.flow
 binary_extends None op right place x hr = hr place x.1
 binary_extends (Some stop) op right place x hr = if_extends right.inputs op stop right place x hr
 
-each_extends : (args : List Expr) → Each (λ e. HoistExtends (hoisting_of e)) args → Each HoistExtends (map hoisting_of args)
+pub each_extends : (args : List Expr) → Each (λ e. HoistExtends (hoisting_of e)) args → Each HoistExtends (map hoisting_of args)
 each_extends [] a = tt
 each_extends (e ∷ es) a = (a.0, each_extends es a.1)
 
-hoists_extend : (e : Expr) → HoistExtends (hoisting_of e)
+pub hoists_extend : (e : Expr) → HoistExtends (hoisting_of e)
 hoists_extend = by_forms (λ e. HoistExtends (hoisting_of e))
     (λ n w. subst HoistExtends (sym (fold-Number Hoisting hoisting_step n w)) (λ place s. extends_none s.flow))
     (λ x. subst HoistExtends (sym (fold-Local Hoisting hoisting_step x)) (λ place s. extends_none s.flow))

@@ -16,7 +16,7 @@ use Rattle.graph_law.specs.Quiet.{IsQuiet, SettlingKeepsNamed}
 use Rattle.graph_law.proofs.Settling.{Found, found}
 use Rattle.graph_law.proofs.Quieting.{silent_edges_are_quiet}
 
-take_set : (n : ℕ) (values : List ℤ) (x : ℕ) (v : ℤ) → n ≤ x → take n (slice_set values x v) ≡ take n values
+pub take_set : (n : ℕ) (values : List ℤ) (x : ℕ) (v : ℤ) → n ≤ x → take n (slice_set values x v) ≡ take n values
 take_set zero values x v h = refl
 take_set (suc n) [] x v h = refl
 take_set (suc n) (y ∷ values) zero v h = absurd (omega (arith, h))

@@ -30,7 +30,7 @@ module _ (slots : List Slot) (edges : List MarkedEdge) where
   after_one : (k : ℕ) (m mid : Moment) (e : ℕ) → silent_from slots edges 0 m ≡ Some (e, mid) → (settled_within (suc k) slots edges m).1 ≡ (settled_within k slots edges mid).1
   after_one k m mid e done = ap (λ (o : Found). (settled_or m (settled_within k slots edges) o).1) done
 
-  rested : (k : ℕ) (m : Moment) → silent_from slots edges 0 m ≡ None → (settled_within k slots edges m).1 ≡ m
+  pub rested : (k : ℕ) (m : Moment) → silent_from slots edges 0 m ≡ None → (settled_within k slots edges m).1 ≡ m
   rested zero m none = refl
   rested (suc k) m none = ap (λ (o : Found). (settled_or m (settled_within k slots edges) o).1) none
 

@@ -1,4 +1,11 @@
-ghost use Rattle.hoist_law.specs.Laws.{InputsAreTaken, SilentEdgesAreDone, WaysLeadOn};
+ghost use Rattle.hoist_law.specs.Laws.{
+  HoistingKeepsWidth,
+  HoistingMeetsDemand,
+  HoistingMeetsDemands,
+  InputsAreTaken,
+  SilentEdgesAreDone,
+  WaysLeadOn,
+};
 
 /// A silent edge that can be done is the one that is done at its node; where an edge takes an input,
 /// no silent edge can be done, and the input goes by this edge.
@@ -11,4 +18,14 @@ pub fn edges_are_taken()
 /// with the others.
 pub fn ways_lead_on()
     ensures { WaysLeadOn }
+{}
+
+/// The hoisting of an expression meets its demand: over the inputs that the demand takes, the graph
+/// comes to where the hoisted expression has the demand's value at the demand's width, or to a node
+/// whose edge gets the input that the demand lacks; else the demand is a fault. So it is of the
+/// arguments of a call that stands alone.
+pub fn hoisting_meets_demand()
+    ensures one { HoistingMeetsDemand }
+    ensures all { HoistingMeetsDemands }
+    ensures width { HoistingKeepsWidth }
 {}
