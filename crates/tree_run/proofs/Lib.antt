@@ -1,0 +1,5 @@
+mod Calling
+mod Leaving
+mod Tops
+mod Deciding
+mod Ending
