@@ -1,16 +1,16 @@
 -- The faults of an expression, form by form, and where the first one of a part is the first of the whole.
-use Rattle.std.proofs.Common.{◌≡◌, refl, sym, ap, ◌∙◌, subst, ℕ, suc, ◌+◌, List, [], ◌∷◌, ◌++◌, map, length, drop}
+use Rattle.std.proofs.Common.{Result, ◌≡◌, refl, sym, ap, ◌∙◌, subst, ℕ, suc, ◌+◌, List, [], ◌∷◌, ◌++◌, map, length, drop}
 use Rattle.std.specs.List.{flat_map}
 use Rattle.gob_tree.specs.declared.expr.BinOp.{BinOp}
 use Rattle.gob_tree.specs.declared.expr.Expr.{Expr}
 use Rattle.c_parse.specs.declared.raw.expr.RawName.{RawName}
 use Rattle.c_parse.specs.declared.raw.expr.RawExpr.{RawExpr, Binary, Call}
 use Rattle.c_check.specs.declared.fault.FrontFault.{FrontFault}
-use Rattle.c_check.specs.Faults.{IsFirst}
+use Rattle.c_check.specs.Faults.{IsFirst, Checks}
 use Rattle.c_check.specs.Names.{FileNames, BodyNames, meaning}
 use Rattle.c_check.specs.Rules.{value_call_faults}
 use Rattle.c_check.specs.Bodies.{expr_faults_step, expr_faults, expr_of_step, expr_of, args_faults, call_of}
-use Rattle.c_check.proofs.Firsts.{first_left, first_right}
+use Rattle.c_check.proofs.Firsts.{first_left}
 use Rattle.c_check.proofs.RawFolds.{fold-Binary, fold-Call}
 
 module _ (file : FileNames) (body : BodyNames) where
@@ -34,20 +34,17 @@ module _ (file : FileNames) (body : BodyNames) where
   pub of-Call : (f : RawName) (args : List RawExpr) → expr_of file body (Call f args) ≡ call_of (meaning file body f.text) (map (expr_of file body) args)
   of-Call f args = fold-Call Expr (expr_of_step file body) f args
 
-  -- ---- faults of parts
+  -- ---- what a form answers
 
   pub binary_left : (fault : FrontFault) (raw : RawExpr) (op : BinOp) (a b : RawExpr) → raw ≡ Binary op a b → IsFirst fault (expr_faults file body a) → IsFirst fault (expr_faults file body raw)
   binary_left fault raw op a b is h =
       subst (λ (fs : List FrontFault). IsFirst fault fs) (sym (ap (expr_faults file body) is ∙ faults-Binary op a b)) (first_left fault _ (expr_faults file body b) h)
 
-  pub call_name : (fault : FrontFault) (raw : RawExpr) (f : RawName) (args : List RawExpr) → raw ≡ Call f args → IsFirst fault (value_call_faults file body f (length args)) → IsFirst fault (expr_faults file body raw)
-  call_name fault raw f args is h =
-      subst (λ (fs : List FrontFault). IsFirst fault fs) (sym (ap (expr_faults file body) is ∙ faults-Call f args)) (first_left fault _ (args_faults file body args) h)
-
-  pub call_args : (fault : FrontFault) (raw : RawExpr) (f : RawName) (args : List RawExpr) → raw ≡ Call f args → value_call_faults file body f (length args) ≡ []
-      → IsFirst fault (args_faults file body args) → IsFirst fault (expr_faults file body raw)
-  call_args fault raw f args is e h =
-      subst (λ (fs : List FrontFault). IsFirst fault fs) (sym (ap (expr_faults file body) is ∙ faults-Call f args)) (first_right fault _ (args_faults file body args) e h)
+  pub call_done : (r : Result Expr FrontFault) (raw : RawExpr) (f : RawName) (args : List RawExpr) → raw ≡ Call f args
+      → Checks r (value_call_faults file body f (length args) ++ args_faults file body args) (call_of (meaning file body f.text) (map (expr_of file body) args)) → Checks r (expr_faults file body raw) (expr_of file body raw)
+  call_done r raw f args is h =
+      subst (λ (e : RawExpr). Checks r (expr_faults file body e) (expr_of file body e)) (sym is)
+      (rw (faults-Call f args, of-Call f args) h)
 
   -- ---- arguments one by one
 

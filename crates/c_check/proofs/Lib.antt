@@ -1,12 +1,16 @@
 pub mod ExprForms
 pub mod Firsts
+pub mod Listed
+pub mod Parameters
 pub mod RawFolds
 pub mod RawLevels
+pub mod Sequences
 pub mod Spelled
 pub mod SpelledForms
 pub mod SpelledStmts
 pub mod SpelledTokens
 pub mod SpelledUnits
+pub mod StmtForms
 pub mod WellMade
 pub mod WellMadeBodies
 pub mod WellMadeExprs
@@ -19,3 +23,4 @@ pub mod WellMadeNames
 pub mod WellMadeScopes
 pub mod WellMadeStmts
 pub mod WellMadeUnits
+pub mod Widths

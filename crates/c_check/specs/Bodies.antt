@@ -3,7 +3,7 @@
 -- A reader should check, form by form: which rules it can break and in which order, which names each part sees,
 -- and the tree with numbers for names. Where a name doesn't mean what it is asked to be there is a fault, and the
 -- tree doesn't matter.
-use Rattle.std.specs.Prelude.{ℕ, pos, Bool, true, List, [], ◌∷◌, ◌++◌, length, map, Option, None, Some}
+use Rattle.std.specs.Prelude.{ℕ, pos, Bool, true, false, List, [], ◌∷◌, ◌++◌, length, map, Option, None, Some}
 use Rattle.std.specs.List.{flat_map}
 use Rattle.std.specs.Option.{option_map, option_map_or}
 use Rattle.gob_tree.specs.declared.place.Place.{Place}
@@ -20,6 +20,7 @@ use Rattle.c_parse.specs.declared.raw.expr.RawExpr.TheOpen.{RawExpr-F}
 use Rattle.c_parse.specs.declared.raw.expr.RawExpr.TheFolds.{fold-RawExpr}
 use Rattle.c_parse.specs.declared.raw.stmt.RawReturn.{RawReturn}
 use Rattle.c_parse.specs.declared.raw.stmt.RawReturn.TheVariants.{Plain, Null, Value}
+use Rattle.c_parse.specs.declared.raw.stmt.RawStmt.{RawStmt, fold-RawStmt, out-RawStmt}
 use Rattle.c_parse.specs.declared.raw.stmt.RawStmt.TheOpen.{RawStmt-F, RawPlaced-F}
 use Rattle.c_parse.specs.declared.raw.stmt.RawPlaced.{RawPlaced, fold-RawPlaced}
 use Rattle.c_check.specs.declared.fault.FrontFault.{FrontFault}
@@ -207,6 +208,22 @@ reading_step file s place = record {
 
 abbrev pub placed_step : RawPlaced-F (Place → Reading) Reading → Reading
 placed_step p = p.stmt p.place
+
+-- a statement that has no statements in it
+abbrev pub is_simple_step : {A B : Type 0} → RawStmt-F A B → Bool
+is_simple_step (RawStmt-F.If e a b) = false
+is_simple_step (RawStmt-F.While e s) = false
+is_simple_step (RawStmt-F.DoWhile s e) = false
+is_simple_step (RawStmt-F.For first test last s) = false
+is_simple_step (RawStmt-F.Block all) = false
+is_simple_step other = true
+
+abbrev pub is_simple : RawStmt → Bool
+is_simple s = is_simple_step (out-RawStmt s)
+
+-- a statement at a place
+abbrev pub reading_at : FileNames → RawStmt → Place → Reading
+reading_at file = fold-RawStmt (Place → Reading) Reading (reading_step file) placed_step
 
 abbrev pub reading_of : FileNames → RawPlaced → Reading
 reading_of file = fold-RawPlaced (Place → Reading) Reading (reading_step file) placed_step

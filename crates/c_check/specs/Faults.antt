@@ -35,3 +35,7 @@ Checks r faults value = MatchResult r (λ v. (faults ≡ []) × (v ≡ value)) (
 -- the same of a check that gives nothing
 abbrev pub Passes : {A : Type 0} → Result A FrontFault → List FrontFault → Type 0
 Passes r faults = MatchResult r (λ _. faults ≡ []) (λ fault. IsFirst fault faults)
+
+-- the same of a check that also changes what is known: `new` is what is known then
+abbrev pub Reads : {A S : Type 0} → Result A FrontFault → List FrontFault → A → S → S → Type 0
+Reads r faults value new after = MatchResult r (λ v. (faults ≡ []) × (v ≡ value) × (new ≡ after)) (λ fault. IsFirst fault faults)

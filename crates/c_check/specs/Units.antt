@@ -39,8 +39,11 @@ use Rattle.c_check.specs.Bodies.{reading_of, sequence_faults, sequence_becomes, 
 
 -- ---- heads
 
+abbrev pub width_of : RawParam → Width
+width_of p = p.width
+
 abbrev pub signature : ℕ → RawHead → Signature
-signature n h = record { number = n; kind = h.kind; width = h.width; params = map (λ (p : RawParam). p.width) h.params }
+signature n h = record { number = n; kind = h.kind; width = h.width; params = map width_of h.params }
 
 abbrev pub same_kind : FuncKind → FuncKind → Bool
 same_kind Int k = is_int k

@@ -3,12 +3,19 @@
 #![tactic(auto)]
 
 mod examples;
+mod exprs;
 mod fault;
+<<<<<<< HEAD
 mod law;
+=======
+mod heads;
+>>>>>>> bbdd2bc (c_check: expressions, statements and heads with numbers for names: each call answers the first fault, or the tree and the names of the definition)
 mod meaning;
 mod named;
 mod rules;
 mod scope;
+mod simple;
+mod stmts;
 mod visible;
 
 pub use examples::limits_by_hand;
