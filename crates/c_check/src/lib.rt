@@ -5,11 +5,8 @@
 mod examples;
 mod exprs;
 mod fault;
-<<<<<<< HEAD
-mod law;
-=======
 mod heads;
->>>>>>> bbdd2bc (c_check: expressions, statements and heads with numbers for names: each call answers the first fault, or the tree and the names of the definition)
+mod law;
 mod meaning;
 mod named;
 mod rules;
