@@ -3,3 +3,4 @@ mod Leaving
 mod Tops
 mod Deciding
 mod Ending
+mod Stacks

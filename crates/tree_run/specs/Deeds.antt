@@ -2,7 +2,7 @@
 --
 -- A reader should check: what is left to do after each way, and the frames and the effect of each
 -- deed. `front_step` of the definition says which deed it is.
-use Rattle.std.specs.Prelude.{◌≡◌, ℕ, ℤ, pos, List, [], ◌∷◌, ◌++◌, map, reverse, Option, None, Some, slice_set}
+use Rattle.std.specs.Prelude.{◌≡◌, ◌-◌, ◌<◌, List, ◌∷◌, ◌++◌, length, map, reverse, Some, slice_set, slice_index_or}
 use Rattle.gob_tree.specs.declared.unit.Unit.{Unit as TranslationUnit}
 use Rattle.c_meaning.specs.declared.config.Todo.{Todo}
 use Rattle.c_meaning.specs.declared.config.Todo.TheVariants.{Stmt as Doing}
@@ -15,7 +15,8 @@ use Rattle.tree_run.specs.declared.deed.Deed.{Deed}
 use Rattle.tree_run.specs.declared.deed.Deed.TheVariants.{Waits, Fails, Gets, Calls, Returns, Goes, Stores, Writes, Owns, Creates}
 use Rattle.tree_run.specs.declared.frame.Frame.{Frame}
 use Rattle.tree_run.specs.Framing.{shown}
-use Rattle.tree_run.specs.Stack.{part_todo}
+use Rattle.tree_run.specs.declared.todo.Next.{Next}
+use Rattle.tree_run.specs.Stack.{part_todo, IsReady}
 
 -- what is left to do
 abbrev pub after_way : Way → List Todo → List Todo
@@ -42,3 +43,8 @@ deed_step (Creates var f) s =
 -- the frames of a thread, the topmost first, where they are kept with the topmost last
 abbrev pub stack_of : List Frame → List Tree.Frame
 stack_of frames = reverse (map shown frames)
+
+-- in the topmost frame, which is there, this comes next
+pub record IsTopReady (frames : List Frame) (n : Next) : Type 0 where
+  pub there : 0 < length frames
+  pub ready : (frame : Frame) → frame ≡ slice_index_or frames (length frames - 1) frame → IsReady frame.todo.items (Some n)

@@ -6,6 +6,7 @@ mod deed;
 mod demand;
 mod frame;
 mod front;
+mod stack;
 mod todo;
 mod value;
 mod way;
