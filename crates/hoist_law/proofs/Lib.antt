@@ -4,5 +4,6 @@ pub mod Fetching
 pub mod Leaving
 pub mod Logic
 pub mod Meeting
+pub mod Pieces
 pub mod Ways
 pub mod Whole

@@ -5,13 +5,15 @@ use Rattle.gob_tree.specs.declared.graph.Action.{Action}
 use Rattle.gob_tree.specs.WellMade.{is_made_expr}
 use Rattle.gob_tree.specs.declared.expr.Expr.{Expr}
 use Rattle.gob_tree.specs.declared.place.Place.{Place}
+use Rattle.gob_tree.specs.declared.stmt.Placed.{Placed}
 use Rattle.gob_tree.specs.declared.unit.Function.{Function}
 use Rattle.gob_tree.specs.declared.unit.Unit.{Unit as TranslationUnit}
 use Rattle.c_meaning.specs.Demand.{demand_of, demands_of, value_of, values_of, width_of}
-use Rattle.c_meaning.specs.Graph.{FlowGraph, flow_of, graph_slots, hoisted_expr, hoisted_exprs}
+use Rattle.c_meaning.specs.Graph.{FlowGraph, Route, flow_of, graph_slots, hoisted_expr, hoisted_exprs, lowering_of}
 use Rattle.c_meaning.specs.GraphStep.{local_slots}
 use Rattle.c_meaning.specs.Walk.{Moment, input_from, input_slot, moment_along, silent_from}
 use Rattle.graph_law.specs.Laying.{HasEdge}
+use Rattle.graph_law.specs.Lying.{Piece}
 use Rattle.hoist_law.specs.Along.{Along}
 use Rattle.hoist_law.specs.Hoisting.{Meets, Within}
 
@@ -57,3 +59,8 @@ abbrev pub HoistingKeepsWidth : Type 0
 HoistingKeepsWidth =
     (unit : TranslationUnit) (f : Function) (e : Expr) (place : Place) (node : ℕ) (d : FlowGraph) → IsTrue (is_made_expr unit f e) → Within f (hoisted_expr e place node d).1.flow
     → width_of (hoisted_expr e place node d).0 (graph_slots f) ≡ width_of e f.slots
+
+-- What a statement is lowered to, wherever it is met in a body, is on the way to the function's graph
+-- with its temporaries too, so that what is said of hoisting holds of its expressions.
+abbrev pub PiecesAreWithin : Type 0
+PiecesAreWithin = (f : Function) (s : Placed) (r : Route) (d : FlowGraph) → Piece f s r d → Within f ((lowering_of s).lower r d)

@@ -3,6 +3,7 @@ ghost use Rattle.hoist_law.specs.Laws.{
   HoistingMeetsDemand,
   HoistingMeetsDemands,
   InputsAreTaken,
+  PiecesAreWithin,
   SilentEdgesAreDone,
   WaysLeadOn,
 };
@@ -28,4 +29,10 @@ pub fn hoisting_meets_demand()
     ensures one { HoistingMeetsDemand }
     ensures all { HoistingMeetsDemands }
     ensures width { HoistingKeepsWidth }
+{}
+
+/// What a statement is lowered to, wherever it is met in the body of a function, comes first in the
+/// graph of the function, and its temporaries among those of the function.
+pub fn pieces_are_within()
+    ensures { PiecesAreWithin }
 {}

@@ -4,4 +4,4 @@
 
 mod law;
 
-pub use law::{edges_are_taken, hoisting_meets_demand, ways_lead_on};
+pub use law::{edges_are_taken, hoisting_meets_demand, pieces_are_within, ways_lead_on};
