@@ -1,16 +1,17 @@
 ghost use Rattle.std.specs.Prelude.{◌≡◌, OnOk, OnErr, Some, slice_set};
 ghost use Rattle.c_meaning.specs.Demand.{with_slot};
-ghost use Rattle.c_meaning.specs.Tree.{frame_after, rest_of, func_slots};
+ghost use Rattle.c_meaning.specs.Tree.{frame_after, rest_of, func_slots, caller_after};
 ghost use Rattle.tree_run.specs.Deeds.{after_way};
 ghost use Rattle.tree_run.specs.Framing.{shown};
 ghost use Rattle.tree_run.specs.Stack.{IsReady};
 
 use crate::deed::Way;
 use crate::frame::{Frame, slots_of};
-use crate::todo::Next;
+use crate::todo::{Next, settle};
 use crate::value::{converted, width_at};
 use crate::way::{go, take_front};
 use gob_tree::{Memory, Unit};
+use std::alloc::Global;
 
 /// Writes a number where there is a place for it.
 fn put(values: &mut Vec<i64>, x: u16, number: i64)
@@ -64,5 +65,22 @@ impl<'u> Frame<'u> {
             self.vars[place] = Some(thread);
         }
         self.pass(next);
+    }
+
+    /// The frame goes on after a call in it returned this number; after want of memory it is as
+    /// before.
+    pub(crate) fn resume(&mut self, alloc: Global, unit: &Unit, number: i64) -> Result<(), Memory>
+        ensures ok { OnOk result (shown self.new ≡ caller_after unit.now (shown self.old) number) }
+        ensures err { OnErr result (shown self.new ≡ shown self.old) }
+    {
+        let next = settle(&mut self.todo)?;
+        match self.demand(alloc, unit, next)? {
+            Err(_) => self.get_input(number)?,
+            Ok(_) => match next {
+                None => self.ins.clear(),
+                Some(next) => self.pass(next),
+            },
+        }
+        Ok(())
     }
 }
