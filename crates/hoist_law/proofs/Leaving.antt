@@ -15,13 +15,13 @@ use Rattle.graph_law.proofs.Guards.{one_guard_at_most}
 use Rattle.graph_law.proofs.Statements.{one_way_out}
 use Rattle.hoist_law.specs.Laws.{InputsAreTaken, SilentEdgesAreDone}
 
-same_node : (n : ℕ) → nat_eq n n ≡ true
+pub same_node : (n : ℕ) → nat_eq n n ≡ true
 same_node n = grind (arith, nat_tests)
 
 -- ---- the edges that leave a node decide
 
 -- the first of these that is silent and can be done leads on
-abbrev DoneOf : List Slot → Moment → List MarkedEdge → Option (ℕ × Moment) → Type 0
+abbrev pub DoneOf : List Slot → Moment → List MarkedEdge → Option (ℕ × Moment) → Type 0
 DoneOf slots m [] found = found ≡ None
 DoneOf slots m (d ∷ ds) found =
     ((next : List ℤ) → silent_slots slots d m ≡ Some next → (e : ℕ) × (found ≡ Some (e, moment_after d.edge next)))
@@ -43,7 +43,7 @@ done_step : (slots : List Slot) (d : MarkedEdge) (ds : List MarkedEdge) (i : ℕ
 done_step slots d ds i m found rest true e = (λ next done. (i, ap (first_or d i found) done), done_skipped slots d ds i m found rest)
 done_step slots d ds i m found rest false e = done_skipped slots d ds i m found rest (no_silent_away slots d m e)
 
-done_by : (slots : List Slot) (ds : List MarkedEdge) (i : ℕ) (m : Moment) → DoneOf slots m (leaving m.node ds) (silent_from slots ds i m)
+pub done_by : (slots : List Slot) (ds : List MarkedEdge) (i : ℕ) (m : Moment) → DoneOf slots m (leaving m.node ds) (silent_from slots ds i m)
 done_by slots [] i m = refl
 done_by slots (d ∷ ds) i m = done_step slots d (leaving m.node ds) i m (silent_from slots ds (i + 1) m) (done_by slots ds (i + 1) m) (nat_eq d.edge.from m.node) refl
 
@@ -68,7 +68,7 @@ input_by (d ∷ ds) node = input_step d (leaving node ds) node (input_from ds no
 
 -- ---- an edge that leaves a node is among those
 
-abbrev Among : MarkedEdge → List MarkedEdge → Type 0
+abbrev pub Among : MarkedEdge → List MarkedEdge → Type 0
 Among d [] = ⊥
 Among d (x ∷ ds) = (x ≡ d) ⊎ Among d ds
 
@@ -89,7 +89,7 @@ get_contained [] d k within same = absurd (omega arith)
 get_contained (x ∷ ds) d zero within same = ap (λ (y : MarkedEdge). Some y) same
 get_contained (x ∷ ds) d (suc k) within same = get_contained ds d k (omega (arith, within)) same
 
-leaves_among : (f : Function) (d : MarkedEdge) (node : ℕ) → Contains (flow_of f).edges d → nat_eq d.edge.from node ≡ true → Among d (leaving node (flow_of f).edges)
+pub leaves_among : (f : Function) (d : MarkedEdge) (node : ℕ) → Contains (flow_of f).edges d → nat_eq d.edge.from node ≡ true → Among d (leaving node (flow_of f).edges)
 leaves_among f d node one leaves = among_leaving node (flow_of f).edges one.0 d (get_contained (flow_of f).edges d one.0 one.1 one.2) leaves
 
 -- ---- a silent edge that can be done
@@ -146,7 +146,7 @@ silent_edges_are_done f act to m values edge done =
 
 -- ---- an input
 
-not_silent : (slots : List Slot) (d : MarkedEdge) (m : Moment) → d.silent ≡ false → silent_slots slots d m ≡ None
+pub not_silent : (slots : List Slot) (d : MarkedEdge) (m : Moment) → d.silent ≡ false → silent_slots slots d m ≡ None
 not_silent slots d m silent = ap (λ (b : Bool). if b && nat_eq d.edge.from m.node then local_slots slots d.edge.act m.slots else None) silent
 
 input_here : (d : MarkedEdge) (node x : ℕ) → d.silent ≡ false → nat_eq d.edge.from node ≡ true → input_slot d.edge.act ≡ Some x → input_edge d node ≡ Some (x, d.edge.to)
