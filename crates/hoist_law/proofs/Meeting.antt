@@ -173,7 +173,7 @@ module _ (f : Function) where
         wide = local_wide (temp_slot w s) w fetched.wide;
         kept = fetched.kept;
         there = fetched.there;
-        runs = λ values ins room. input_runs w (λ t. actions.Nondet t) s _ (temp_slot w s) (Nondet w) values ins fetched room (temp_slot w s, _, fetched.edge);
+        runs = λ values ins room. input_runs w (λ t. actions.Nondet t) s _ (temp_slot w s) (Nondet w) values ins fetched room (temp_slot w s, _, fetched.edge, fetched.wide);
       }
 
   -- ---- a prefix

@@ -1,13 +1,13 @@
 -- What is met while a body is lowered is on the way to the function's graph, temporaries too.
-use Rattle.std.proofs.Common.{◌≡◌, refl, sym, subst, ℕ, false, List, [], ◌∷◌, length, map, Option, None, Some, ◌∙◌}
+use Rattle.std.proofs.Common.{◌≡◌, sym, subst, false, List, [], ◌∷◌, map, Option, None, Some}
 use Rattle.std.specs.Option.{option_map}
 use Rattle.std.proofs.lemmas.List.{append-nil}
 use Rattle.gob_tree.specs.declared.place.Place.{Place}
 use Rattle.gob_tree.specs.declared.expr.Expr.{Expr}
-use Rattle.gob_tree.specs.declared.stmt.Stmt.{Stmt, If, While, DoWhile, For, Block}
+use Rattle.gob_tree.specs.declared.stmt.Stmt.{If}
 use Rattle.gob_tree.specs.declared.stmt.Placed.{Placed}
 use Rattle.gob_tree.specs.declared.unit.Function.{Function}
-use Rattle.c_meaning.specs.Graph.{FlowGraph, Lowering, Route, body_route, condition, do_flow, do_route, else_route, first_flow, flow_of, for_first, for_route, hoisted_expr, if_head, last_route, lowering_of, next_node, route_from, route_to, sequence, then_route, while_route, with_guards, with_node}
+use Rattle.c_meaning.specs.Graph.{FlowGraph, Lowering, Route, body_route, do_flow, do_route, else_route, first_flow, flow_of, for_first, for_route, hoisted_expr, if_head, last_route, lowering_of, next_node, route_from, route_to, sequence, then_route, with_node}
 use Rattle.c_meaning.proofs.Lowerings.{lowering-If, lowering-While, lowering-DoWhile, lowering-For, lowering-Block}
 use Rattle.graph_law.specs.Lying.{at, start_of, for_condition, for_opened, Piece, alone, first_of, then_part, else_part, while_body, do_body, for_body, Series, body, behind, in_block, for_firsts}
 use Rattle.graph_law.proofs.Extending.{PartExtends, do_rest_extends, every_extends, extends_none, for_rest_extends, lowerings_extend, part_extends, sequence_extends}

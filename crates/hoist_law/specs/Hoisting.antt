@@ -9,7 +9,7 @@ use Rattle.gob_tree.specs.declared.graph.Action.TheVariants as actions
 use Rattle.gob_tree.specs.declared.unit.Function.{Function}
 use Rattle.c_meaning.specs.declared.demand.Demand.{Demand}
 use Rattle.c_meaning.specs.declared.demand.Demand.TheVariants.{Global, Nondet, Call, Fault}
-use Rattle.c_meaning.specs.Demand.{values_of}
+use Rattle.c_meaning.specs.Demand.{slot_width, values_of}
 use Rattle.c_meaning.specs.Graph.{FlowGraph, flow_of, graph_slots}
 use Rattle.c_meaning.specs.Walk.{moment_along}
 use Rattle.graph_law.specs.Laying.{Extends, HasEdge}
@@ -22,10 +22,11 @@ pub record Within (f : Function) (d : FlowGraph) : Type 0 where
   pub temps : (flow_of f).temps ≡ d.temps ++ more
 
 -- an edge that leaves the node gets the missing input into a temporary: a global, an arbitrary
--- number, or the result of a call whose arguments have the values that are asked for
+-- number of the temporary's width, or the result of a call whose arguments have the values that
+-- are asked for
 abbrev pub WaitsFor : Function → Demand → ℕ → List ℤ → Type 0
 WaitsFor f (Global g) node values = (t : ℕ) × (to : ℕ) × HasEdge f false node (actions.Read t g) to
-WaitsFor f (Nondet w) node values = (t : ℕ) × (to : ℕ) × HasEdge f false node (actions.Nondet t) to
+WaitsFor f (Nondet w) node values = (t : ℕ) × (to : ℕ) × HasEdge f false node (actions.Nondet t) to × (slot_width (graph_slots f) t ≡ w)
 WaitsFor f (Call g ns) node values =
     (t : ℕ) × (to : ℕ) × (args : List Expr) × HasEdge f false node (actions.Call (Some t) g args) to × (values_of args (graph_slots f) values ≡ Ok ns)
 WaitsFor f Fault node values = ⊥
