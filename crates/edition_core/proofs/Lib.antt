@@ -1,3 +1,3 @@
 pub mod Examples
-mod Order
 mod Readings
+mod Valued

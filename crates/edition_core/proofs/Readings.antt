@@ -1,7 +1,5 @@
 -- What is read from the lists that a table and a program have.
-use Rattle.std.proofs.Common.{◌≡◌, ℕ, suc, ◌+◌, ◌<◌, List, [], ◌∷◌, ◌++◌, length, get_or, take, drop, drop-cons, Some, slice_get, refl, sym, append_assoc, ap, ◌∙◌, add-one, true, true≢false}
-use Rattle.std.proofs.Math.Seq.{take-suc}
-use Rattle.std.proofs.lemmas.Option.{get_or_from_slice_get, slice_get_within, slice_get_read}
+use Rattle.std.proofs.Common.{◌≡◌, ℕ, suc, ◌+◌, List, [], ◌∷◌, ◌++◌, length, drop, Some, slice_get, refl, sym, ap, ◌∙◌, true, true≢false}
 use Rattle.gob_tree.specs.declared.unit.Slot.{Slot}
 use Rattle.interval_dom.specs.Bounds.{Bounds}
 use Rattle.state_dom.specs.StateValue.{StateValue, Bottom, Reached, FitsEach, HasShape, slots_of, is_reached}

@@ -4,7 +4,6 @@ use Rattle.std.specs.Fmt.{signed_decimal}
 use Rattle.std.specs.Int.{bit_at}
 use Rattle.std.specs.List.{flat_map, join_by}
 use Rattle.std.specs.Map.{keys_of}
-use Rattle.std.specs.Ordering.{is_lt}
 use Rattle.gob_tree.specs.declared.graph.FuncGraph.{FuncGraph}
 use Rattle.gob_tree.specs.declared.graph.Program.{Program}
 use Rattle.gob_tree.specs.declared.place.Place.{Place}
@@ -20,7 +19,8 @@ use Rattle.constraint_sys.specs.declared.unknown.Unknown.{Unknown}
 use Rattle.constraint_sys.specs.declared.unknown.Unknown.TheVariants.{Point, Global}
 use Rattle.constraint_sys.specs.declared.value.Value.{Value}
 use Rattle.constraint_sys.specs.declared.value.Value.TheVariants.{State, Number}
-use Rattle.constraint_sys.specs.Table.{TableValue, value_at, unknown_cmp}
+use Rattle.constraint_sys.specs.Table.{TableValue, value_at}
+use Rattle.constraint_sys.specs.UnknownOrder.{in_unknown_order}
 use Rattle.gob_tree.specs.Labels.{labels_of}
 
 -- `[lo,hi]`
@@ -107,15 +107,6 @@ line_of p (Point f key node) (Some (State s)) = point_line p (slice_get p.funcs 
 line_of p (Point f key node) (Some (Number x)) = []
 line_of p (Global g) (Some (State s)) = []
 line_of p (Global g) (Some (Number x)) = global_line (slice_get p.globals g) x
-
--- an unknown put before the first that isn't below it
-abbrev pub put_in_order : Unknown → List Unknown → List Unknown
-put_in_order u [] = u ∷ []
-put_in_order u (v ∷ vs) = if is_lt (unknown_cmp v u) then v ∷ put_in_order u vs else u ∷ v ∷ vs
-
-abbrev pub in_unknown_order : List Unknown → List Unknown
-in_unknown_order [] = []
-in_unknown_order (u ∷ us) = put_in_order u (in_unknown_order us)
 
 abbrev pub lines_of : Program → TableValue → List Unknown → List ℕ
 lines_of p t us = flat_map (λ (u : Unknown). line_of p u (value_at t u)) us
