@@ -1,9 +1,14 @@
+pub mod Among
+pub mod Counting
 pub mod ExprForms
 pub mod Firsts
 pub mod Listed
+pub mod Mains
+pub mod Making
 pub mod Parameters
 pub mod RawFolds
 pub mod RawLevels
+pub mod Resolved
 pub mod Sequences
 pub mod Spelled
 pub mod SpelledForms

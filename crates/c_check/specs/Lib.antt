@@ -5,4 +5,5 @@ pub mod Laws
 pub mod Names
 pub mod Rules
 pub mod Spelled
+pub mod Stages
 pub mod Units

@@ -1,6 +1,6 @@
 //! Entries by name.
 
-ghost use Rattle.std.specs.Prelude.{◌≡◌, ◌++◌, ◌∷◌, [], OnOk, OnErr};
+ghost use Rattle.std.specs.Prelude.{◌≡◌, ◌++◌, ◌∷◌, [], length, OnOk, OnErr};
 ghost use Rattle.std.specs.Option.{option_copied};
 ghost use Rattle.c_check.specs.Names.{named};
 
@@ -31,6 +31,13 @@ impl<V> Named<V> {
         Named {
             entries: Seq::new(alloc),
         }
+    }
+
+    /// The number of entries.
+    pub(crate) fn len(&self) -> usize
+        ensures { result ≡ length self.now }
+    {
+        self.entries.len()
     }
 
     /// The first value of a name; `None` exactly where the name isn't there.

@@ -121,7 +121,7 @@ impl Model for BodyScope {
 
 /// The number after so many, where it is one of 16 bits. A text of 65,536 bytes has fewer
 /// declarations, so there `Memory` doesn't come.
-fn next_number(count: usize) -> Result<u16, Memory>
+pub(crate) fn next_number(count: usize) -> Result<u16, Memory>
     ensures { IfOk result (λ n. n ≡ count) }
 {
     if count > u16::MAX as usize {
