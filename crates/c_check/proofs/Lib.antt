@@ -2,6 +2,8 @@ pub mod Among
 pub mod Counting
 pub mod ExprForms
 pub mod Firsts
+pub mod FrontGraphs
+pub mod FrontSizes
 pub mod Listed
 pub mod Mains
 pub mod Making

@@ -1,6 +1,7 @@
 pub mod Bodies
 pub mod Examples
 pub mod Faults
+pub mod Front
 pub mod Laws
 pub mod Names
 pub mod Rules

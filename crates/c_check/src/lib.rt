@@ -5,6 +5,7 @@
 mod examples;
 mod exprs;
 mod fault;
+mod graphs;
 mod heads;
 mod items;
 mod law;
