@@ -3,6 +3,7 @@ pub mod Counting
 pub mod ExprForms
 pub mod Firsts
 pub mod FrontGraphs
+pub mod FrontPhases
 pub mod FrontSizes
 pub mod Listed
 pub mod Mains
