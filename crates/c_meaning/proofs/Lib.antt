@@ -3,6 +3,7 @@ pub mod DemandLaws
 pub mod Evaluation
 pub mod Fronts
 pub mod GraphExampleProofs
+pub mod GraphStepExampleProofs
 pub mod Growth
 pub mod Lowerings
 pub mod RowProofs

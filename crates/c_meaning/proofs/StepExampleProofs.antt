@@ -3,10 +3,11 @@ use Rattle.std.proofs.Common.{◌≡◌, refl, pos, negsuc, [], ◌∷◌, Ok, E
 use Rattle.std.specs.Int.{int_wrap}
 use Rattle.gob_tree.specs.declared.expr.Width.TheVariants.{W32}
 use Rattle.c_meaning.specs.declared.demand.Demand.TheVariants.{Nondet, Fault}
+use Rattle.c_meaning.specs.Config.{first_values}
 use Rattle.c_meaning.specs.Demand.{value_of, demand_of, with_slot}
 use Rattle.c_meaning.proofs.Evaluation.{steps, expressions}
 use Rattle.c_meaning.specs.Samples.{answers, left, slots_of}
-use Rattle.c_meaning.specs.StepExamples.{first_choice, one_fault, zero_division, top_sum, least_quotient, long_sum, long_sum_behind, long_slots, long_values, int_slots, two_inputs, early_fault, early_stop, early_or, late_or, one_input, relocking, returning, dividing, adding, widening, racing, racing_choices, calling, calling_choices, inside_slots, calling_slots, unlocking, joining_none, waiting, waiting_choices, waiting_answers, turning, turning_choices, turning_threads, relocking_answers, returning_answers, dividing_answers, racing_answers, two_choices, late_choices, adding_choices, adding_slots, widening_choices, widening_slots, racing_slots}
+use Rattle.c_meaning.specs.StepExamples.{first_choice, one_fault, zero_division, top_sum, least_quotient, long_sum, long_sum_behind, long_slots, long_values, int_slots, two_inputs, early_fault, early_stop, early_or, late_or, one_input, relocking, returning, dividing, adding, widening, racing, racing_choices, calling, calling_choices, inside_slots, calling_slots, unlocking, joining_none, waiting, waiting_choices, waiting_answers, turning, turning_choices, turning_threads, holding, ending_choices, joined_choices, narrowing_choices, narrowing_slots, held, two_parameters, two_arguments, relocking_answers, returning_answers, dividing_answers, racing_answers, two_choices, late_choices, adding_choices, adding_slots, widening_choices, widening_slots, racing_slots}
 
 -- ---- expressions
 
@@ -99,3 +100,19 @@ join_waits = simp steps
 pub loop_turns : (left turning turning_choices).threads ≡ turning_threads
 unfolding int_wrap
 loop_turns = simp steps
+
+-- ---- calls and joins
+
+pub parameters : first_values two_parameters two_arguments ≡ pos 0 ∷ negsuc 2147483647 ∷ pos 2147483648 ∷ pos 0 ∷ []
+unfolding int_wrap
+parameters = refl
+
+pub argument : slots_of (left holding narrowing_choices) ≡ narrowing_slots
+unfolding int_wrap
+argument = simp steps
+
+pub before_join : (left holding ending_choices).owners ≡ held
+before_join = simp steps
+
+pub after_join : (left holding joined_choices).owners ≡ held
+after_join = simp steps

@@ -3,6 +3,7 @@ pub mod Demand
 pub mod Graph
 pub mod GraphExamples
 pub mod GraphStep
+pub mod GraphStepExamples
 pub mod Laws
 pub mod Rows
 pub mod Run

@@ -1,5 +1,5 @@
 -- Expressions and runs of small programs, and what becomes of them, by hand.
-use Rattle.std.specs.Prelude.{ℤ, pos, negsuc, List, [], ◌∷◌, None, Some}
+use Rattle.std.specs.Prelude.{ℕ, ℤ, pos, negsuc, List, [], ◌∷◌, Option, None, Some}
 use Rattle.gob_tree.specs.declared.expr.Width.TheVariants.{W32, W64}
 use Rattle.gob_tree.specs.declared.expr.BinOp.TheVariants.{Add, Div, Lt, And, Or}
 use Rattle.gob_tree.specs.declared.expr.Expr.{Expr, Number, Local, Global, Nondet, Binary, Call}
@@ -195,6 +195,47 @@ waiting_choices = choice 1 0 ∷ choice 1 0 ∷ choice 2 0 ∷ choice 2 0 ∷ ch
 
 abbrev pub waiting_answers : List Stepped
 waiting_answers = Moved ∷ Blocked ∷ Moved ∷ Ended ∷ Moved ∷ []
+
+-- int f(int n) { return n + 1; } void *w(void *a) { return NULL; }
+-- int main(void) {
+--   pthread_mutex_lock(&m); pthread_create(&t, NULL, w, NULL); pthread_join(t, NULL); f(2147483648); return 0;
+-- }
+abbrev pub holding_main : Function
+holding_main = int_func (int_slot ∷ []) ([] ∷ [])
+    (at 3 3 (Stmt.Lock 0)
+    ∷ at 4 3 (Stmt.Create 0 1)
+    ∷ at 5 3 (Stmt.Join 0)
+    ∷ at 6 3 (Stmt.CallOnly 0 (Number (pos 2147483648) W64 ∷ []))
+    ∷ returns (int 0)
+    ∷ [])
+
+abbrev pub holding : TranslationUnit
+holding = record { funcs = called ∷ waited ∷ holding_main ∷ []; globals = []; mutexes = [] ∷ []; main = 2 }
+
+-- the lock, the start of the thread and its end; then the join too; then the call too
+abbrev pub ending_choices : List Choice
+ending_choices = choice 1 0 ∷ choice 1 0 ∷ choice 2 0 ∷ []
+
+abbrev pub joined_choices : List Choice
+joined_choices = choice 1 0 ∷ choice 1 0 ∷ choice 2 0 ∷ choice 1 0 ∷ []
+
+abbrev pub narrowing_choices : List Choice
+narrowing_choices = choice 1 0 ∷ choice 1 0 ∷ choice 2 0 ∷ choice 1 0 ∷ choice 1 0 ∷ []
+
+-- thread 1 owns the mutex
+abbrev pub held : List (Option ℕ)
+held = Some 1 ∷ []
+
+-- the number is above the greatest int, so the parameter gets the least
+abbrev pub narrowing_slots : List (List (List ℤ))
+narrowing_slots = ((pos 0 ∷ negsuc 2147483647 ∷ []) ∷ (pos 0 ∷ []) ∷ []) ∷ [] ∷ []
+
+-- int f(int n, long m) { int x; .. }, called with that number twice
+abbrev pub two_parameters : List Slot
+two_parameters = int_slot ∷ int_slot ∷ long_slot ∷ int_slot ∷ []
+
+abbrev pub two_arguments : List ℤ
+two_arguments = pos 2147483648 ∷ pos 2147483648 ∷ []
 
 -- int main(void) { for (int i = 0; i < 2; i++) { if (i) break; continue; } return 0; }
 abbrev pub turning_main : Function

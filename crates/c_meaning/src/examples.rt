@@ -1,7 +1,9 @@
 ghost use Rattle.std.specs.Prelude.{◌≡◌, pos, negsuc, [], ◌∷◌, Ok, Err, Some, None};
 ghost use Rattle.c_meaning.specs.Demand.{demand_of, value_of, with_slot};
+ghost use Rattle.c_meaning.specs.Config.{first_values};
 ghost use Rattle.c_meaning.specs.Graph.{flow_of};
-ghost use Rattle.c_meaning.specs.Walk.{walk_of, Stands};
+ghost use Rattle.c_meaning.specs.GraphStep.{Do, Enter, first_graph};
+ghost use Rattle.c_meaning.specs.Walk.{after_move, after_moves, walk_of, Stands};
 ghost use Rattle.c_meaning.specs.Samples.{answers, left, slots_of};
 ghost use Rattle.c_meaning.specs.StepExamples.{
   zero_division,
@@ -50,6 +52,15 @@ ghost use Rattle.c_meaning.specs.StepExamples.{
   turning,
   turning_choices,
   turning_threads,
+  holding,
+  holding_main,
+  ending_choices,
+  joined_choices,
+  narrowing_choices,
+  narrowing_slots,
+  held,
+  two_parameters,
+  two_arguments,
   calling_main,
   called,
 };
@@ -73,6 +84,7 @@ ghost use Rattle.c_meaning.specs.GraphExamples.{
   acting_flow,
 };
 ghost use Rattle.c_meaning.specs.WalkExamples.{
+  by,
   called_flow,
   calling_flow,
   calling_walk,
@@ -88,6 +100,15 @@ ghost use Rattle.c_meaning.specs.WalkExamples.{
   calling_moment_at,
   ended_tree,
   ended_moment,
+};
+ghost use Rattle.c_meaning.specs.GraphStepExamples.{
+  holding_flow,
+  holding_program,
+  starting_moves,
+  started,
+  ended,
+  joined,
+  entered,
 };
 
 use crate::demand::Demand;
@@ -141,6 +162,22 @@ pub fn graphs_by_hand()
     ensures actions { flow_of acting ≡ acting_flow }
     ensures bare_for_and_do { flow_of looping ≡ looping_flow }
     ensures call_in_expression { flow_of calling_main ≡ calling_flow }
+{}
+
+/// What a call and a join do, on trees and on graphs: the parameter of a call is the argument,
+/// converted to the parameter's width (C17, 6.5.2.2); a new thread owns no mutex; a join waits for the
+/// end of its thread and leaves every mutex with its owner (POSIX, `pthread_join`).
+pub fn calls_and_joins_by_hand()
+    ensures parameters { first_values two_parameters two_arguments ≡ pos 0 ∷ negsuc 2147483647 ∷ pos 2147483648 ∷ pos 0 ∷ [] }
+    ensures argument { slots_of (left holding narrowing_choices) ≡ narrowing_slots }
+    ensures before_join { (left holding ending_choices).owners ≡ held }
+    ensures after_join { (left holding joined_choices).owners ≡ held }
+    ensures graph { flow_of holding_main ≡ holding_flow }
+    ensures graph_starts { after_moves holding_program starting_moves (first_graph holding_program) ≡ Some started }
+    ensures graph_waits { after_move holding_program started (by 1 (Do 3)) ≡ None }
+    ensures graph_ends { after_moves holding_program (by 2 (Do 0) ∷ by 2 (Do 1) ∷ []) started ≡ Some ended }
+    ensures graph_joins { after_move holding_program ended (by 1 (Do 3)) ≡ Some joined }
+    ensures graph_enters { after_move holding_program joined (by 1 (Enter 4)) ≡ Some entered }
 {}
 
 /// Walks worked out by hand: those of two threads, one over the silent edges of an `&&`, and one

@@ -12,8 +12,8 @@ mod rows;
 pub use config::{Choice, Stepped, Todo};
 pub use demand::Demand;
 pub use examples::{
-    expressions_by_hand, graphs_by_hand, moments_by_hand, no_moments_by_hand, runs_by_hand,
-    walks_by_hand,
+    calls_and_joins_by_hand, expressions_by_hand, graphs_by_hand, moments_by_hand,
+    no_moments_by_hand, runs_by_hand, walks_by_hand,
 };
 pub use laws::{
     final_answers_stay, missing_takes_all, only_moves_change, prefixes_are_runs, silent_edges_end,
