@@ -143,7 +143,7 @@ params_cut [] ys args = refl
 params_cut (x ∷ xs) ys [] = ap (λ (l : List ℤ). pos 0 ∷ l) (params_cut xs ys [])
 params_cut (x ∷ xs) ys (n ∷ args) = ap (λ (l : List ℤ). conversion x.width n ∷ l) (params_cut xs ys args)
 
-first_cut : (xs ys : List Slot) (args : List ℤ) → take (length xs) (first_values (xs ++ ys) args) ≡ first_values xs args
+pub first_cut : (xs ys : List Slot) (args : List ℤ) → take (length xs) (first_values (xs ++ ys) args) ≡ first_values xs args
 first_cut [] ys args = refl
 first_cut (x ∷ xs) ys args = ap (λ (l : List ℤ). pos 0 ∷ l) (params_cut xs ys args)
 
@@ -158,12 +158,12 @@ first_room (x ∷ xs) args = ap suc (params_room xs args)
 
 -- ---- the entry
 
-entry_edge : (f : Function) → HasEdge f true 0 Skip 2
+pub entry_edge : (f : Function) → HasEdge f true 0 Skip 2
 entry_edge f =
     let x = sequence_extends (map lowering_of f.body) (every_extends f.body) body_route (first_flow f) in
     subst (λ (l : List MarkedEdge). Contains l (record { edge = record { from = 0; act = Skip; to = 2 }; silent = true })) (sym x.edges) (0, omega arith, refl)
 
-lies_nothing : (f : Function) (n : ℕ) → Lies f [] n → n ≡ 1
+pub lies_nothing : (f : Function) (n : ℕ) → Lies f [] n → n ≡ 1
 lies_nothing f _ nothing = refl
 
 along_begin : (f : Function) (args : List ℤ) (h : ℕ) → settled_at f 2 (first_values (graph_slots f) args) ≡ settled_at f h (first_values (graph_slots f) args)

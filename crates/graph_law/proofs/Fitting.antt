@@ -38,11 +38,11 @@ conversion_fits W64 n = let f = SFits-int_wrap (bits_of W64) n in within W64 (co
     within : (w : Width) (m : ℤ) → lowest w ≤ℤ m → m ≤ℤ greatest w → IsTrue (fits w m)
     within w m low high = rw (test_passes (lowest w) m low, test_passes m (greatest w) high) refl
 
-by_parts : {A : Type 0} (P : A → Type 0) (xs : List A) → All P xs → AllByRecursion P xs
+pub by_parts : {A : Type 0} (P : A → Type 0) (xs : List A) → All P xs → AllByRecursion P xs
 by_parts P [] a = tt
 by_parts P (x ∷ xs) a = (a 0 x (omega arith), by_parts P xs (λ k d h. a (suc k) d (omega (arith, h))))
 
-fit_initials : (gs : List GlobalDecl) → AllByRecursion (λ (g : GlobalDecl). IsTrue (fits g.width g.initial)) gs → FitEach gs (map (λ (g : GlobalDecl). g.initial) gs)
+pub fit_initials : (gs : List GlobalDecl) → AllByRecursion (λ (g : GlobalDecl). IsTrue (fits g.width g.initial)) gs → FitEach gs (map (λ (g : GlobalDecl). g.initial) gs)
 fit_initials [] a = tt
 fit_initials (g ∷ gs) a = (a.0, fit_initials gs a.1)
 
@@ -169,7 +169,7 @@ unless_ended : (unit : TranslationUnit) (c : Config Frame) (t : ℕ) (ended : Bo
 unless_ended unit c t true s next a h e = cc
 unless_ended unit c t false s next a h e = outcome_fits unit c t s next a h e
 
-thread_fits : (unit : TranslationUnit) (c : Config Frame) (t : ℕ) (input : ℤ) (frames : Option (List Frame)) (next : Config Frame) → FitEach unit.globals c.globals → thread_step unit c t input frames ≡ MovesTo next → FitEach unit.globals next.globals
+pub thread_fits : (unit : TranslationUnit) (c : Config Frame) (t : ℕ) (input : ℤ) (frames : Option (List Frame)) (next : Config Frame) → FitEach unit.globals c.globals → thread_step unit c t input frames ≡ MovesTo next → FitEach unit.globals next.globals
 thread_fits unit c t input None next a e = cc
 thread_fits unit c t input (Some []) next a e = cc
 thread_fits unit c t input (Some (frame ∷ below)) next a e =

@@ -22,12 +22,12 @@ use Rattle.graph_law.proofs.Extending.{extends_none, extends_then, extends_node,
 
 -- ---- what a piece draws
 
-part_grows : (last : Option Placed) → PartExtends (option_map lowering_of last)
+pub part_grows : (last : Option Placed) → PartExtends (option_map lowering_of last)
 part_grows None = tt
 part_grows (Some l) = lowerings_extend l
 
 -- a statement's graph by the form of the statement
-drawn_as : (f : Function) (s : Placed) (l : Lowering) (r : Route) (d : FlowGraph) → lowering_of s ≡ l → Extends ((lowering_of s).lower r d) (flow_of f) → Extends (l.lower r d) (flow_of f)
+pub drawn_as : (f : Function) (s : Placed) (l : Lowering) (r : Route) (d : FlowGraph) → lowering_of s ≡ l → Extends ((lowering_of s).lower r d) (flow_of f) → Extends (l.lower r d) (flow_of f)
 drawn_as f s l r d e x = subst (λ (m : Lowering). Extends (m.lower r d) (flow_of f)) e x
 
 module _ (f : Function) where
@@ -92,7 +92,7 @@ still_there : (a b : FlowGraph) (x : MarkedEdge) → Extends a b → Contains a.
 still_there a b x e c = subst (λ (l : List MarkedEdge). Contains l x) (sym e.edges) (there_before a.edges e.more x c)
 
 -- both guards behind a graph
-guards_there : (from : ℕ) (e : Expr) (p q : ℕ) (d : FlowGraph) (f : Function) → Extends (with_marked false from (Guard e false) q (with_marked false from (Guard e true) p d)) (flow_of f) → HasEdge f false from (Guard e true) p × HasEdge f false from (Guard e false) q
+pub guards_there : (from : ℕ) (e : Expr) (p q : ℕ) (d : FlowGraph) (f : Function) → Extends (with_marked false from (Guard e false) q (with_marked false from (Guard e true) p d)) (flow_of f) → HasEdge f false from (Guard e true) p × HasEdge f false from (Guard e false) q
 guards_there from e p q d f x =
     let one = with_marked false from (Guard e true) p d in
     let two = with_marked false from (Guard e false) q one in (

@@ -23,30 +23,30 @@ get_behind : {A : Type 0} (front : List A) (x : A) (xs : List A) → slice_get (
 get_behind [] x xs = refl
 get_behind (y ∷ front) x xs = get_behind front x xs
 
-set_same : {A : Type 0} (xs : List A) (i : ℕ) (x : A) → slice_get xs i ≡ Some x → slice_set xs i x ≡ xs
+pub set_same : {A : Type 0} (xs : List A) (i : ℕ) (x : A) → slice_get xs i ≡ Some x → slice_set xs i x ≡ xs
 set_same [] i x e = refl
 set_same (y ∷ xs) zero x e = let same : y ≡ x = cc in ap (λ z. z ∷ xs) (sym same)
 set_same (y ∷ xs) (suc i) x e = ap (λ (l : List _). y ∷ l) (set_same xs i x e)
 
-set_twice : {A : Type 0} (xs : List A) (i : ℕ) (x z : A) → slice_set (slice_set xs i x) i z ≡ slice_set xs i z
+pub set_twice : {A : Type 0} (xs : List A) (i : ℕ) (x z : A) → slice_set (slice_set xs i x) i z ≡ slice_set xs i z
 set_twice [] i x z = refl
 set_twice (y ∷ xs) zero x z = refl
 set_twice (y ∷ xs) (suc i) x z = ap (λ (l : List _). y ∷ l) (set_twice xs i x z)
 
-get_set : {A : Type 0} (xs : List A) (i : ℕ) (x z : A) → slice_get xs i ≡ Some z → slice_get (slice_set xs i x) i ≡ Some x
+pub get_set : {A : Type 0} (xs : List A) (i : ℕ) (x z : A) → slice_get xs i ≡ Some z → slice_get (slice_set xs i x) i ≡ Some x
 get_set [] i x z e = cc
 get_set (y ∷ xs) zero x z e = refl
 get_set (y ∷ xs) (suc i) x z e = get_set xs i x z e
 
-thread_same : (threads : List (List Graph.Frame)) (t : ℕ) (frames : List Graph.Frame) → thread_at threads t ≡ Some frames → with_thread threads t frames ≡ threads
+pub thread_same : (threads : List (List Graph.Frame)) (t : ℕ) (frames : List Graph.Frame) → thread_at threads t ≡ Some frames → with_thread threads t frames ≡ threads
 thread_same threads zero frames e = refl
 thread_same threads (suc i) frames e = set_same threads i frames e
 
-thread_twice : (threads : List (List Graph.Frame)) (t : ℕ) (a b : List Graph.Frame) → with_thread (with_thread threads t a) t b ≡ with_thread threads t b
+pub thread_twice : (threads : List (List Graph.Frame)) (t : ℕ) (a b : List Graph.Frame) → with_thread (with_thread threads t a) t b ≡ with_thread threads t b
 thread_twice threads zero a b = refl
 thread_twice threads (suc i) a b = set_twice threads i a b
 
-thread_set : (threads : List (List Graph.Frame)) (t : ℕ) (a b : List Graph.Frame) → thread_at threads t ≡ Some b → thread_at (with_thread threads t a) t ≡ Some a
+pub thread_set : (threads : List (List Graph.Frame)) (t : ℕ) (a b : List Graph.Frame) → thread_at threads t ≡ Some b → thread_at (with_thread threads t a) t ≡ Some a
 thread_set threads zero a b e = cc
 thread_set threads (suc i) a b e = get_set threads i a b e
 
@@ -91,7 +91,7 @@ found slots front (d ∷ ds) m i e next at q =
 -- ---- one silent edge
 
 -- an action that touches nothing else is done as it stands
-local_effect : (s : Site) (slots : List Slot) (act : Action) (values : List ℤ) → local_slots slots act s.frame.slots ≡ Some values → action_effect s slots act ≡ Some (slots_effect s values)
+pub local_effect : (s : Site) (slots : List Slot) (act : Action) (values : List ℤ) → local_slots slots act s.frame.slots ≡ Some values → action_effect s slots act ≡ Some (slots_effect s values)
 local_effect s slots (Assign x e) values q = ap (option_map (slots_effect s)) q
 local_effect s slots (Read x g) values q = cc
 local_effect s slots (Write g e) values q = cc
@@ -105,14 +105,14 @@ local_effect s slots (Join x) values q = cc
 local_effect s slots (Call d f args) values q = cc
 local_effect s slots Skip values q = ap (option_map (slots_effect s)) q
 
-edge_done : (s : Site) (edge : Edge) (values : List ℤ) → nat_eq edge.from s.frame.node ≡ true → local_slots (Graph.func_slots s.program s.frame.func) edge.act s.frame.slots ≡ Some values
+pub edge_done : (s : Site) (edge : Edge) (values : List ℤ) → nat_eq edge.from s.frame.node ≡ true → local_slots (Graph.func_slots s.program s.frame.func) edge.act s.frame.slots ≡ Some values
     → after_edge s edge ≡ Some (record s.config { threads = with_thread s.config.threads s.thread (record s.frame { node = edge.to; slots = values } ∷ s.below) })
 edge_done s edge values leaves done =
     ap (λ (b : Bool). if b then option_map (frame_moved s edge.to) (action_effect s (Graph.func_slots s.program s.frame.func) edge.act) else None) leaves
     ∙ ap (option_map (frame_moved s edge.to)) (local_effect s (Graph.func_slots s.program s.frame.func) edge.act values done)
 
 -- the edges of a unit's program are those of its graphs without the marks
-edges_match : (unit : TranslationUnit) (f e : ℕ) (d : MarkedEdge) → slice_get (marked_edges_at (marked_of unit) f) e ≡ Some d → edge_at (program_of unit) f e ≡ Some d.edge
+pub edges_match : (unit : TranslationUnit) (f e : ℕ) (d : MarkedEdge) → slice_get (marked_edges_at (marked_of unit) f) e ≡ Some d → edge_at (program_of unit) f e ≡ Some d.edge
 edges_match unit f e d q = go (slice_get unit.funcs f) (slice_get-map (λ (g : Function). (flow_of g).edges) unit.funcs f) (slice_get-map graph_of unit.funcs f)
   where
     go : (o : Option Function) → slice_get (map (λ (g : Function). (flow_of g).edges) unit.funcs) f ≡ option_map (λ (g : Function). (flow_of g).edges) o → slice_get (map graph_of unit.funcs) f ≡ option_map graph_of o → edge_at (program_of unit) f e ≡ Some d.edge

@@ -35,7 +35,7 @@ frame_stands unit k f s ss args at same =
       front = subst (λ (o : Option Function). StandsInFront o (Tree.frame_of k f args).todo (Tree.frame_of k f args).slots [] (entered f args).node (entered f args).slots) (sym at) new.front;
     }
 
-graph_there : (unit : TranslationUnit) (k : ℕ) (f : Function) → slice_get unit.funcs k ≡ Some f → slice_get (program_of unit).funcs k ≡ Some (graph_of f)
+pub graph_there : (unit : TranslationUnit) (k : ℕ) (f : Function) → slice_get unit.funcs k ≡ Some f → slice_get (program_of unit).funcs k ≡ Some (graph_of f)
 graph_there unit k f at = slice_get-map graph_of unit.funcs k ∙ ap (option_map graph_of) at
 
 settles_there : (unit : TranslationUnit) (k : ℕ) (f : Function) (args : List ℤ) → slice_get unit.funcs k ≡ Some f → (settled_frame (marked_of unit) (Graph.frame_of k args (graph_of f))).1 ≡ entered f args
@@ -56,7 +56,7 @@ settled_is unit k f args at =
     ap (λ (o : Option FuncGraph). settled_new (marked_of unit) (Graph.new_frame_or k args o)) (graph_there unit k f at)
     ∙ ap (λ (m : Moment). record (Graph.frame_of k args (graph_of f)) { node = m.node; slots = m.slots }) (settles_there unit k f args at)
 
-tree_is : (unit : TranslationUnit) (k : ℕ) (f : Function) (args : List ℤ) → slice_get unit.funcs k ≡ Some f → Tree.new_frame unit k args ≡ Tree.frame_of k f args
+pub tree_is : (unit : TranslationUnit) (k : ℕ) (f : Function) (args : List ℤ) → slice_get unit.funcs k ≡ Some f → Tree.new_frame unit k args ≡ Tree.frame_of k f args
 tree_is unit k f args at = ap (Tree.new_frame_or k args) at
 
 -- a function that is there has a body with a statement
@@ -64,7 +64,7 @@ has_statement : (body : List Placed) → IsTrue (ends_in_return body) → (s : P
 has_statement [] e = absurd (cc)
 has_statement (s ∷ ss) e = (s, ss, refl)
 
-body_there : (unit : TranslationUnit) (k : ℕ) (f : Function) → IsWellMade unit → slice_get unit.funcs k ≡ Some f → (s : Placed) × (ss : List Placed) × (f.body ≡ s ∷ ss)
+pub body_there : (unit : TranslationUnit) (k : ℕ) (f : Function) → IsWellMade unit → slice_get unit.funcs k ≡ Some f → (s : Placed) × (ss : List Placed) × (f.body ≡ s ∷ ss)
 body_there unit k f made at =
     let formed = made.functions k f (slice_get_within unit.funcs k f at) in
     let here : slice_index_or unit.funcs k f ≡ f = get_or_from_slice_get unit.funcs k f f at in

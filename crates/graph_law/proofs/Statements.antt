@@ -12,7 +12,7 @@ use Rattle.gob_tree.specs.declared.unit.Function.{Function}
 use Rattle.gob_tree.specs.declared.graph.Action.{Action}
 use Rattle.gob_tree.specs.declared.graph.Action.TheVariants.{Assign, Write, Assert, Call, Skip}
 use Rattle.gob_tree.proofs.Induct.{Each}
-use Rattle.c_meaning.specs.Graph.{FlowGraph, Route, HoistState, Hoisted, Lowering, next_node, with_node, with_edge, begun_at, hoisted_expr, hoisted_exprs, call_edge, sequence, sequence_or_silent, part_or_silent, if_head, if_flow, while_head, while_flow, route_to, route_from, then_route, else_route, while_route, do_route, first_route, for_route, last_route, do_flow, for_first, for_head, condition, lowering_step, placed_step, lowering_of, first_flow, body_route}
+use Rattle.c_meaning.specs.Graph.{FlowGraph, Route, HoistState, Hoisted, Lowering, next_node, with_node, with_edge, begun_at, hoisted_expr, hoisted_exprs, call_edge, sequence, sequence_or_silent, part_or_silent, if_head, if_flow, while_head, while_flow, route_to, route_from, then_route, else_route, while_route, do_route, first_route, for_route, last_route, do_flow, for_first, for_head, condition, lowering_step, placed_step, lowering_of, first_flow, flow_of, body_route}
 use Rattle.c_meaning.proofs.Growth.{node_more}
 use Rattle.graph_law.specs.Leaving.{leaving, IsOneWay, OneWayOut}
 use Rattle.graph_law.proofs.Steps.{Free, Tidy, Step, free_above, step_then, step_node, step_edge, step_guards}
@@ -253,3 +253,8 @@ first_tidy f = record { below = (omega arith, tt); ways = ways }
 
 pub one_way_out : OneWayOut
 one_way_out f n = (sequence_step (map lowering_of f.body) (every_step f.body) body_route (first_flow f) (first_tidy f) (omega arith) refl).tidy.ways n
+
+-- nothing leaves the exit
+pub nothing_leaves_exit : (f : Function) → leaving 1 (flow_of f).edges ≡ []
+nothing_leaves_exit f =
+    (sequence_step (map lowering_of f.body) (every_step f.body) body_route (first_flow f) (first_tidy f) (omega arith) refl).free 1 (omega arith) (λ q. absurd (omega (arith, q))) refl
