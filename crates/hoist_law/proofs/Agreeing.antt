@@ -1,5 +1,5 @@
 -- Values that agree on the named slots and on some temporaries.
-use Rattle.std.proofs.Common.{◌≡◌, ◌⊎◌, inl, inr, ◌∙◌, refl, sym, subst, ℕ, ◌+◌, ◌<◌, ℤ, pos, Bool, true, false, nat_eq, List, [], ◌∷◌, length, take, Option, None, Some, arith, true≢false, length-append}
+use Rattle.std.proofs.Common.{◌≡◌, ◌⊎◌, inl, inr, ◌∙◌, refl, sym, subst, ℕ, ◌+◌, ◌<◌, ◌≤◌, ℤ, pos, Bool, true, false, nat_eq, List, [], ◌∷◌, length, take, Option, None, Some, arith, true≢false, length-append}
 use Rattle.std.specs.Prelude.{◌&&◌, ◌||◌, if◌then◌else◌, not, slice_set}
 use Rattle.std.specs.List.{list_any}
 use Rattle.std.proofs.lemmas.Bool.Decides.{nat_tests}
@@ -11,7 +11,7 @@ use Rattle.gob_tree.specs.declared.expr.Width.{Width}
 use Rattle.gob_tree.specs.declared.unit.Slot.{Slot}
 use Rattle.std.proofs.Common.{Ok}
 use Rattle.c_meaning.specs.Demand.{demand_of, value_at}
-use Rattle.c_meaning.specs.Graph.{HoistState, free_from, free_temp, number_or_next, taking, with_temp}
+use Rattle.c_meaning.specs.Graph.{HoistState, free_from, free_temp, next_node, number_or_next, taking, with_temp}
 use Rattle.graph_law.proofs.Keeping.{take_set}
 
 -- ---- temporaries that are taken
@@ -20,9 +20,9 @@ abbrev pub IsIn : ℕ → List ℕ → Type 0
 IsIn k [] = ⊥
 IsIn k (j ∷ js) = (k ≡ j) ⊎ IsIn k js
 
--- each is one of the graph's temporaries
+-- each is one of the graph's temporaries; and the graph has its entry and its exit
 abbrev pub AreThere : HoistState → Type 0
-AreThere s = (k : ℕ) → IsIn k s.taken → k < length s.flow.temps
+AreThere s = ((k : ℕ) → IsIn k s.taken → k < length s.flow.temps) × (2 ≤ next_node s.flow)
 
 apart_from : (k j : ℕ) → nat_eq k j ≡ false → k ≡ j → ⊥
 apart_from k j e same = grind (arith, nat_tests)
@@ -61,13 +61,16 @@ pub record IsTaken (s after : HoistState) (j : ℕ) : Type 0 where
 
 taken_by : (w : Width) (s : HoistState) → AreThere s → (o : Option ℕ) → free_temp w s ≡ o → IsTaken s (taking w o s) (number_or_next o s)
 taken_by w s there None e = record {
-  fresh = λ one. let below = there (length s.flow.temps) one in omega (arith, below);
+  fresh = λ one. let below = there.0 (length s.flow.temps) one in omega (arith, below);
   taken = inl refl;
   kept = λ k one. inr one;
-  there = λ k one. elim one [
-    | inl same ↦ (let long = length-append s.flow.temps (w ∷ []) in omega (arith, same, long))
-    | inr before ↦ (let below = there k before in let long = length-append s.flow.temps (w ∷ []) in omega (arith, below, long))
-  ];
+  there = (
+    λ k one. elim one [
+      | inl same ↦ (let long = length-append s.flow.temps (w ∷ []) in omega (arith, same, long))
+      | inr before ↦ (let below = there.0 k before in let long = length-append s.flow.temps (w ∷ []) in omega (arith, below, long))
+    ],
+    there.1,
+  );
 }
 taken_by w s there (Some j) e =
     let free = free_apart 0 s.flow.temps w s.taken j e in
@@ -76,7 +79,7 @@ taken_by w s there (Some j) e =
       fresh = free.0;
       taken = inl refl;
       kept = λ k one. inr one;
-      there = λ k one. elim one [ inl same ↦ omega (arith, same, below) | inr before ↦ there k before ];
+      there = (λ k one. elim one [ inl same ↦ omega (arith, same, below) | inr before ↦ there.0 k before ], there.1);
     }
 
 pub temp_taken : (w : Width) (s : HoistState) → AreThere s → IsTaken s (with_temp w s) (number_or_next (free_temp w s) s)

@@ -1,5 +1,5 @@
 -- The ways of hoisted expressions, in the words of the moment along inputs.
-use Rattle.std.proofs.Common.{◌≡◌, inl, inr, ◌∙◌, refl, sym, ap, ℕ, ℤ, List, [], ◌∷◌, length, map, take, None, Some, Result, Ok, Err, IsTrue}
+use Rattle.std.proofs.Common.{◌≡◌, ◌≤◌, inl, inr, ◌∙◌, refl, sym, ap, ℕ, ℤ, List, [], ◌∷◌, length, map, take, None, Some, Result, Ok, Err, IsTrue}
 use Rattle.std.specs.Prelude.{All}
 use Rattle.std.proofs.lemmas.List.{append-nil}
 use Rattle.std.proofs.lemmas.List.Elements.{All-head, All-tail}
@@ -12,7 +12,7 @@ use Rattle.c_meaning.specs.declared.demand.Demand.{Demand}
 use Rattle.c_meaning.specs.declared.demand.Demand.TheVariants.{Global, Nondet, Call, Fault}
 use Rattle.c_meaning.specs.Demand.{Answer, demand_of, demands_of, meaning_of}
 use Rattle.gob_tree.specs.declared.place.Place.{Place}
-use Rattle.c_meaning.specs.Graph.{FlowGraph, HoistState, begun_at, flow_of, graph_slots, hoisted_expr, hoisted_exprs, hoisting_of}
+use Rattle.c_meaning.specs.Graph.{FlowGraph, HoistState, begun_at, flow_of, graph_slots, hoisted_expr, hoisted_exprs, hoisting_of, next_node}
 use Rattle.c_meaning.specs.Walk.{Moment, moment_along, silent_from}
 use Rattle.graph_law.proofs.Widening.{expr_grew, exprs_grew}
 use Rattle.hoist_law.specs.Hoisting.{Lacks, Meets, Reaches, WaitsFor, Within}
@@ -66,19 +66,19 @@ module _ (f : Function) (s : HoistState) (node : ℕ) (values ins : List ℤ) wh
 -- ---- the laws
 
 module _ (unit : TranslationUnit) (f : Function) where
-  one_hoists : (e : Expr) (place : Place) (node : ℕ) (d : FlowGraph) → IsTrue (is_made_expr unit f e) → Within f (hoisted_expr e place node d).1.flow → meeting.Hoists f (meaning_of e) (hoisting_of e) place (begun_at node d)
-  one_hoists e place node d made win =
-      (expressions_meet f unit e made).meets place (begun_at node d) (sym (expr_grew e place node d).named ∙ win.named) (λ k one. absurd one) win
+  one_hoists : (e : Expr) (place : Place) (node : ℕ) (d : FlowGraph) → IsTrue (is_made_expr unit f e) → 2 ≤ next_node d → Within f (hoisted_expr e place node d).1.flow → meeting.Hoists f (meaning_of e) (hoisting_of e) place (begun_at node d)
+  one_hoists e place node d made nodes win =
+      (expressions_meet f unit e made).meets place (begun_at node d) (sym (expr_grew e place node d).named ∙ win.named) (λ k one. absurd one, nodes) win
 
 pub hoisting_meets_demand : HoistingMeetsDemand
-hoisting_meets_demand unit f e place node d values ins made win room =
+hoisting_meets_demand unit f e place node d values ins made nodes win room =
     let h = hoisted_expr e place node d in
-    let runs = (one_hoists unit f e place node d made win).runs values ins room in
+    let runs = (one_hoists unit f e place node d made nodes win).runs values ins room in
     let answer = demand_of e f.slots (take (length f.slots) values) ins in
     runs_meet f (begun_at node d) h.1.at values ins (meeting.Has f h.1.taken h.0) _ answer.0 answer.1 (λ v new has. ap (λ (a : Answer ℤ). a.0) (has new (agree_same (length f.slots) h.1.taken new))) runs
 
 pub hoisting_keeps_width : HoistingKeepsWidth
-hoisting_keeps_width unit f e place node d made win = (one_hoists unit f e place node d made win).wide
+hoisting_keeps_width unit f e place node d made nodes win = (one_hoists unit f e place node d made nodes win).wide
 
 each_expected : (unit : TranslationUnit) (f : Function) (es : List Expr) → All (λ (e : Expr). IsTrue (is_made_expr unit f e)) es → meeting.EachExpected f (map meaning_of es) (map hoisting_of es)
 each_expected unit f [] made = tt
@@ -86,9 +86,9 @@ each_expected unit f (e ∷ es) made =
     (expressions_meet f unit e (All-head (λ (x : Expr). IsTrue (is_made_expr unit f x)) e es made), each_expected unit f es (All-tail (λ (x : Expr). IsTrue (is_made_expr unit f x)) e es made))
 
 pub hoisting_meets_demands : HoistingMeetsDemands
-hoisting_meets_demands unit f es place node d values ins made win room =
+hoisting_meets_demands unit f es place node d values ins made nodes win room =
     let h = hoisted_exprs es place node d in
-    let all = meeting.all_meet f (map meaning_of es) (map hoisting_of es) (each_expected unit f es made) place (begun_at node d) (sym (exprs_grew es place node d).named ∙ win.named) (λ k one. absurd one) win in
+    let all = meeting.all_meet f (map meaning_of es) (map hoisting_of es) (each_expected unit f es made) place (begun_at node d) (sym (exprs_grew es place node d).named ∙ win.named) (λ k one. absurd one, nodes) win in
     let answer = demands_of es f.slots (take (length f.slots) values) ins in
     runs_meet f (begun_at node d) h.1.at values ins (meeting.HaveValues f h.1.taken h.0) _ answer.0 answer.1
     (λ vs new have. ap (λ (a : Answer (List ℤ)). a.0) (have new (agree_same (length f.slots) h.1.taken new))) (all.runs values ins room)

@@ -15,12 +15,13 @@ use Rattle.gob_tree.proofs.Folds.{fold-Local}
 use Rattle.c_meaning.specs.Demand.{Meaning, demand_of, meaning_step, slot_width, value_at}
 use Rattle.c_meaning.specs.Graph.{FlowGraph, HoistState, MarkedEdge, fetch, flow_of, free_temp, graph_slots, number_or_next, slots_with, temp_slot, temporary, with_marked, with_node, with_temp}
 use Rattle.c_meaning.specs.Walk.{Moment, input_slot}
+use Rattle.c_meaning.proofs.Growth.{node_more}
 use Rattle.graph_law.specs.Laying.{Extends, HasEdge}
 use Rattle.graph_law.proofs.Decoding.{taken, taking_at, width_more}
 use Rattle.graph_law.proofs.Extending.{extends_then}
 use Rattle.graph_law.proofs.Widening.{Grew}
 use Rattle.hoist_law.specs.Along.{Along, stays, takes}
-use Rattle.hoist_law.specs.Hoisting.{Within}
+use Rattle.hoist_law.specs.Hoisting.{IsFetch, Within}
 use Rattle.hoist_law.proofs.Agreeing.{Agree, AreThere, HasValue, IsIn, agree_set, temp_taken}
 use Rattle.hoist_law.proofs.Leaving.{inputs_are_taken}
 
@@ -62,6 +63,7 @@ pub record Fetched (f : Function) (w : Width) (act : ℕ → Action) (s after : 
   pub wide : slot_width (graph_slots f) t ≡ w
   pub kept : (k : ℕ) → IsIn k s.taken → IsIn k after.taken
   pub there : AreThere after
+  pub is_fetch : IsFetch f t after.at
   pub gets : (values : List ℤ) (n : ℤ) → length values ≡ length (graph_slots f)
       → Along f (n ∷ []) (record { node = s.at; slots = values }) (record { node = after.at; slots = slice_set values t n })
       × Agree (length f.slots) s.taken values (slice_set values t n)
@@ -91,7 +93,8 @@ fetch_fetched f place w act s named there slot win =
       edge = edge;
       wide = graph_width f after.flow win t slot_there.there ∙ slot_there.width;
       kept = temp.kept;
-      there = temp.there;
+      there = (temp.there.0, let more = node_more (with_temp w s).flow place in let two = temp.there.1 in omega (arith, more, two));
+      is_fetch = (omega (arith, number), temp.there.1);
       gets = λ values v room.
           let start : Moment = record { node = s.at; slots = values } in
           let took = inputs_are_taken f (act t) after.at t start edge (slot t) in

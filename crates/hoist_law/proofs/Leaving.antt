@@ -48,7 +48,7 @@ done_by slots [] i m = refl
 done_by slots (d ∷ ds) i m = done_step slots d (leaving m.node ds) i m (silent_from slots ds (i + 1) m) (done_by slots ds (i + 1) m) (nat_eq d.edge.from m.node) refl
 
 -- the input's edge is the first of these that takes one
-abbrev InputOf : ℕ → List MarkedEdge → Option (ℕ × ℕ) → Type 0
+abbrev pub InputOf : ℕ → List MarkedEdge → Option (ℕ × ℕ) → Type 0
 InputOf node [] found = found ≡ None
 InputOf node (d ∷ ds) found = ((x : ℕ × ℕ) → input_edge d node ≡ Some x → found ≡ Some x) × (input_edge d node ≡ None → InputOf node ds found)
 
@@ -62,7 +62,7 @@ input_step : (d : MarkedEdge) (ds : List MarkedEdge) (node : ℕ) (found : Optio
 input_step d ds node found rest true e = (λ x taken. ap (λ (o : Option (ℕ × ℕ)). input_or o found) taken, input_skipped d ds node found rest)
 input_step d ds node found rest false e = input_skipped d ds node found rest (no_input_away d node e)
 
-input_by : (ds : List MarkedEdge) (node : ℕ) → InputOf node (leaving node ds) (input_from ds node)
+pub input_by : (ds : List MarkedEdge) (node : ℕ) → InputOf node (leaving node ds) (input_from ds node)
 input_by [] node = refl
 input_by (d ∷ ds) node = input_step d (leaving node ds) node (input_from ds node) (input_by ds node) (nat_eq d.edge.from node) refl
 
@@ -72,7 +72,7 @@ abbrev pub Among : MarkedEdge → List MarkedEdge → Type 0
 Among d [] = ⊥
 Among d (x ∷ ds) = (x ≡ d) ⊎ Among d ds
 
-among_leaving : (node : ℕ) (ds : List MarkedEdge) (k : ℕ) (d : MarkedEdge) → slice_get ds k ≡ Some d → nat_eq d.edge.from node ≡ true → Among d (leaving node ds)
+pub among_leaving : (node : ℕ) (ds : List MarkedEdge) (k : ℕ) (d : MarkedEdge) → slice_get ds k ≡ Some d → nat_eq d.edge.from node ≡ true → Among d (leaving node ds)
 among_leaving node [] k d at leaves = absurd (none-some d at)
 among_leaving node (x ∷ ds) zero d at leaves =
     let same : x ≡ d = same_Some x d at in
@@ -84,7 +84,7 @@ among_leaving node (x ∷ ds) (suc k) d at leaves = go (nat_eq x.edge.from node)
     go true among = inr among
     go false among = among
 
-get_contained : (ds : List MarkedEdge) (d : MarkedEdge) (k : ℕ) → k < length ds → slice_index_or ds k d ≡ d → slice_get ds k ≡ Some d
+pub get_contained : (ds : List MarkedEdge) (d : MarkedEdge) (k : ℕ) → k < length ds → slice_index_or ds k d ≡ d → slice_get ds k ≡ Some d
 get_contained [] d k within same = absurd (omega arith)
 get_contained (x ∷ ds) d zero within same = ap (λ (y : MarkedEdge). Some y) same
 get_contained (x ∷ ds) d (suc k) within same = get_contained ds d k (omega (arith, within)) same

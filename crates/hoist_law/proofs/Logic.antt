@@ -19,13 +19,14 @@ use Rattle.c_meaning.specs.Demand.{Answer, Meaning, and_then, binary_value, bina
 use Rattle.c_meaning.specs.Graph.{FlowGraph, HoistState, Hoisting, free_temp, graph_slots, logic_join, next_node, node_of, number_or_next, temp_slot, with_node, with_silent, with_temp}
 use Rattle.c_meaning.specs.GraphStep.{local_slots, same_truth, with_value}
 use Rattle.c_meaning.specs.Walk.{Moment}
+use Rattle.c_meaning.proofs.Growth.{node_more}
 use Rattle.graph_law.specs.Laying.{HasEdge}
 use Rattle.graph_law.proofs.Decoding.{taken, taking_at}
 use Rattle.graph_law.proofs.Extending.{extends_edge}
 use Rattle.graph_law.proofs.Widening.{grew_edge, temp_grew}
 use Rattle.hoist_law.specs.Along.{Along, stays, silently}
 use Rattle.hoist_law.specs.Hoisting.{Within}
-use Rattle.hoist_law.proofs.Agreeing.{Agree, HasValue, IsTaken, agree_less, agree_same, agree_set, agree_then, temp_taken}
+use Rattle.hoist_law.proofs.Agreeing.{Agree, AreThere, HasValue, IsTaken, agree_less, agree_same, agree_set, agree_then, temp_taken}
 use Rattle.hoist_law.proofs.Fetching.{graph_room, graph_width, has_local, last_edge, within_before}
 use Rattle.hoist_law.proofs.Leaving.{silent_edges_are_done}
 use Rattle.hoist_law.proofs.Meeting.{Arrives, Expected, Has, Hoists, N, Runs, along_then, at, binary_answer, local_wide, then_runs}
@@ -173,8 +174,17 @@ module _ (f : Function) (op : BinOp) (stop : Bool) (decides : Decides op stop) (
     temp : IsTaken middle taking_one (number_or_next (free_temp W32 middle) middle)
     temp = temp_taken W32 middle l.there
 
+    from_there : AreThere from
+    from_there =
+        let one = with_node place taking_one.flow in
+        let a = node_more taking_one.flow place in
+        let b = node_more one place in
+        let c = node_more (with_node place one) place in
+        let two = temp.there.1 in
+        (temp.there.0, omega (arith, a, b, c, two))
+
     r : Hoists f mb hb place from
-    r = eb.meets place from from_named temp.there win_last
+    r = eb.meets place from from_named from_there win_last
 
     t_wide : slot_width (graph_slots f) t ≡ W32
     t_wide = let there = taken f W32 middle middle_named in graph_width f decided win_decided t there.there ∙ there.width

@@ -163,7 +163,7 @@ module _ (f : Function) where
         wide = local_wide (temp_slot w s) w fetched.wide;
         kept = fetched.kept;
         there = fetched.there;
-        runs = λ values ins room. input_runs w (λ t. actions.Read t g) s _ (temp_slot w s) (Global g) values ins fetched room (temp_slot w s, _, fetched.edge);
+        runs = λ values ins room. input_runs w (λ t. actions.Read t g) s _ (temp_slot w s) (Global g) values ins fetched room (temp_slot w s, _, fetched.edge, fetched.is_fetch);
       }
 
   pub nondet_meets : (w : Width) → Meets (meaning_step (Expr-F.Nondet w)) (hoisting_step (Expr-F.Nondet w))
@@ -173,7 +173,7 @@ module _ (f : Function) where
         wide = local_wide (temp_slot w s) w fetched.wide;
         kept = fetched.kept;
         there = fetched.there;
-        runs = λ values ins room. input_runs w (λ t. actions.Nondet t) s _ (temp_slot w s) (Nondet w) values ins fetched room (temp_slot w s, _, fetched.edge, fetched.wide);
+        runs = λ values ins room. input_runs w (λ t. actions.Nondet t) s _ (temp_slot w s) (Nondet w) values ins fetched room (temp_slot w s, _, fetched.edge, fetched.wide, fetched.is_fetch);
       }
 
   -- ---- a prefix
@@ -433,5 +433,5 @@ module _ (f : Function) where
             let after = (fetch place w called ready).1 in
             let have = ap (λ (x : Answer (List ℤ)). x.0) (a.5 a.1 (agree_same N ready.taken a.1)) in
             then_runs s ready after.at values ins rest a.1 a.0 (Has after.taken (Local t)) _ _ all.kept a.2 a.3 a.4
-            (input_runs w called ready after t (Call g ns) a.1 rest fetched (a.4.room ∙ room) (t, after.at, args, fetched.edge, have))
+            (input_runs w called ready after t (Call g ns) a.1 rest fetched (a.4.room ∙ room) (t, after.at, args, fetched.edge, have, fetched.is_fetch))
         go fetched all values ins room (Err d) rest a = a

@@ -35,7 +35,7 @@ module _ (slots : List Slot) (edges : List MarkedEdge) where
   rested (suc k) m none = ap (λ (o : Found). (settled_or m (settled_within k slots edges) o).1) none
 
 -- a silent edge leads to where one settles
-settles_after : (f : Function) (m mid : Moment) (e : ℕ) → silent_from (graph_slots f) (flow_of f).edges 0 m ≡ Some (e, mid)
+pub settles_after : (f : Function) (m mid : Moment) (e : ℕ) → silent_from (graph_slots f) (flow_of f).edges 0 m ≡ Some (e, mid)
     → (settled_from (graph_slots f) (flow_of f).edges m).1 ≡ (settled_from (graph_slots f) (flow_of f).edges mid).1
 settles_after f m mid e done =
     let slots = graph_slots f in
@@ -44,12 +44,12 @@ settles_after f m mid e done =
 
 -- ---- the moment along inputs
 
-along_after : (f : Function) (ins : List ℤ) (m mid : Moment) → (settled_from (graph_slots f) (flow_of f).edges m).1 ≡ (settled_from (graph_slots f) (flow_of f).edges mid).1
+pub along_after : (f : Function) (ins : List ℤ) (m mid : Moment) → (settled_from (graph_slots f) (flow_of f).edges m).1 ≡ (settled_from (graph_slots f) (flow_of f).edges mid).1
     → moment_along (graph_slots f) (flow_of f).edges ins m ≡ moment_along (graph_slots f) (flow_of f).edges ins mid
 along_after f [] m mid same = ap (λ (x : Moment). Some x) same
 along_after f (n ∷ ins) m mid same = ap (λ (x : Moment). option_and_then (moment_along (graph_slots f) (flow_of f).edges ins) (moment_with_input (flow_of f).edges n x)) same
 
-along_input : (f : Function) (n : ℤ) (ins : List ℤ) (m mid : Moment) → silent_from (graph_slots f) (flow_of f).edges 0 m ≡ None → moment_with_input (flow_of f).edges n m ≡ Some mid
+pub along_input : (f : Function) (n : ℤ) (ins : List ℤ) (m mid : Moment) → silent_from (graph_slots f) (flow_of f).edges 0 m ≡ None → moment_with_input (flow_of f).edges n m ≡ Some mid
     → moment_along (graph_slots f) (flow_of f).edges (n ∷ ins) m ≡ moment_along (graph_slots f) (flow_of f).edges ins mid
 along_input f n ins m mid none taken =
     let slots = graph_slots f in

@@ -2,7 +2,7 @@
 --
 -- A reader should check: that the inputs that are left are those of the demand, that the value is the
 -- hoisted expression's on the slots that are reached, and which edge waits for which missing input.
-use Rattle.std.specs.Prelude.{◌≡◌, ◌⊎◌, ℕ, ℤ, false, List, ◌++◌, length, take, Some, Result, Ok, Err}
+use Rattle.std.specs.Prelude.{◌≡◌, ◌≤◌, ◌⊎◌, ℕ, ℤ, false, List, ◌++◌, length, take, Some, Result, Ok, Err}
 use Rattle.gob_tree.specs.declared.expr.Expr.{Expr}
 use Rattle.gob_tree.specs.declared.expr.Width.{Width}
 use Rattle.gob_tree.specs.declared.graph.Action.TheVariants as actions
@@ -21,14 +21,18 @@ pub record Within (f : Function) (d : FlowGraph) : Type 0 where
   pub more : List Width
   pub temps : (flow_of f).temps ≡ d.temps ++ more
 
+-- an edge that gets an input has its slot behind those with names, and doesn't lead to the exit
+abbrev pub IsFetch : Function → ℕ → ℕ → Type 0
+IsFetch f t to = (length f.slots ≤ t) × (2 ≤ to)
+
 -- an edge that leaves the node gets the missing input into a temporary: a global, an arbitrary
 -- number of the temporary's width, or the result of a call whose arguments have the values that
 -- are asked for
 abbrev pub WaitsFor : Function → Demand → ℕ → List ℤ → Type 0
-WaitsFor f (Global g) node values = (t : ℕ) × (to : ℕ) × HasEdge f false node (actions.Read t g) to
-WaitsFor f (Nondet w) node values = (t : ℕ) × (to : ℕ) × HasEdge f false node (actions.Nondet t) to × (slot_width (graph_slots f) t ≡ w)
+WaitsFor f (Global g) node values = (t : ℕ) × (to : ℕ) × HasEdge f false node (actions.Read t g) to × IsFetch f t to
+WaitsFor f (Nondet w) node values = (t : ℕ) × (to : ℕ) × HasEdge f false node (actions.Nondet t) to × (slot_width (graph_slots f) t ≡ w) × IsFetch f t to
 WaitsFor f (Call g ns) node values =
-    (t : ℕ) × (to : ℕ) × (args : List Expr) × HasEdge f false node (actions.Call (Some t) g args) to × (values_of args (graph_slots f) values ≡ Ok ns)
+    (t : ℕ) × (to : ℕ) × (args : List Expr) × HasEdge f false node (actions.Call (Some t) g args) to × (values_of args (graph_slots f) values ≡ Ok ns) × IsFetch f t to
 WaitsFor f Fault node values = ⊥
 
 -- The inputs but the rest lead from a node to another one, the named slots stay as they are, and

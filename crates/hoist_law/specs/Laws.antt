@@ -1,6 +1,6 @@
 -- How single edges and ways of them stand to the moment along inputs, and how the ways of a hoisted
 -- expression stand to its demand.
-use Rattle.std.specs.Prelude.{◌≡◌, ℕ, ℤ, true, false, List, ◌++◌, All, IsTrue, length, take, None, Some, Ok}
+use Rattle.std.specs.Prelude.{◌≡◌, ◌≤◌, ℕ, ℤ, true, false, List, ◌++◌, All, IsTrue, length, take, None, Some, Ok}
 use Rattle.gob_tree.specs.declared.graph.Action.{Action}
 use Rattle.gob_tree.specs.WellMade.{is_made_expr}
 use Rattle.gob_tree.specs.declared.expr.Expr.{Expr}
@@ -9,7 +9,7 @@ use Rattle.gob_tree.specs.declared.stmt.Placed.{Placed}
 use Rattle.gob_tree.specs.declared.unit.Function.{Function}
 use Rattle.gob_tree.specs.declared.unit.Unit.{Unit as TranslationUnit}
 use Rattle.c_meaning.specs.Demand.{demand_of, demands_of, value_of, values_of, width_of}
-use Rattle.c_meaning.specs.Graph.{FlowGraph, Route, flow_of, graph_slots, hoisted_expr, hoisted_exprs, lowering_of}
+use Rattle.c_meaning.specs.Graph.{FlowGraph, Route, flow_of, graph_slots, hoisted_expr, hoisted_exprs, lowering_of, next_node}
 use Rattle.c_meaning.specs.GraphStep.{local_slots}
 use Rattle.c_meaning.specs.Walk.{Moment, input_from, input_slot, moment_along, silent_from}
 use Rattle.graph_law.specs.Laying.{HasEdge}
@@ -37,11 +37,11 @@ WaysLeadOn =
     → moment_along (graph_slots f) (flow_of f).edges (ins ++ rest) m ≡ moment_along (graph_slots f) (flow_of f).edges rest last
 
 -- What an expression that may stand in a function answers on the named slots and the inputs, its
--- hoisting does in the graph: it reaches its end with the value and the inputs that are left, or
+-- hoisting does in the graph that has its entry and its exit already: it reaches its end with the value and the inputs that are left, or
 -- waits for the missing input, or there is a fault.
 abbrev pub HoistingMeetsDemand : Type 0
 HoistingMeetsDemand =
-    (unit : TranslationUnit) (f : Function) (e : Expr) (place : Place) (node : ℕ) (d : FlowGraph) (values ins : List ℤ) → IsTrue (is_made_expr unit f e)
+    (unit : TranslationUnit) (f : Function) (e : Expr) (place : Place) (node : ℕ) (d : FlowGraph) (values ins : List ℤ) → IsTrue (is_made_expr unit f e) → 2 ≤ next_node d
     → Within f (hoisted_expr e place node d).1.flow → length values ≡ length (graph_slots f)
     → Meets f node values ins (hoisted_expr e place node d).1.at (λ v new. value_of (hoisted_expr e place node d).0 (graph_slots f) new ≡ Ok v)
     (demand_of e f.slots (take (length f.slots) values) ins).0 (demand_of e f.slots (take (length f.slots) values) ins).1
@@ -49,7 +49,7 @@ HoistingMeetsDemand =
 -- and so do the hoisted arguments of a call that stands alone
 abbrev pub HoistingMeetsDemands : Type 0
 HoistingMeetsDemands =
-    (unit : TranslationUnit) (f : Function) (es : List Expr) (place : Place) (node : ℕ) (d : FlowGraph) (values ins : List ℤ) → All (λ e. IsTrue (is_made_expr unit f e)) es
+    (unit : TranslationUnit) (f : Function) (es : List Expr) (place : Place) (node : ℕ) (d : FlowGraph) (values ins : List ℤ) → All (λ e. IsTrue (is_made_expr unit f e)) es → 2 ≤ next_node d
     → Within f (hoisted_exprs es place node d).1.flow → length values ≡ length (graph_slots f)
     → Meets f node values ins (hoisted_exprs es place node d).1.at (λ vs new. values_of (hoisted_exprs es place node d).0 (graph_slots f) new ≡ Ok vs)
     (demands_of es f.slots (take (length f.slots) values) ins).0 (demands_of es f.slots (take (length f.slots) values) ins).1
@@ -57,7 +57,7 @@ HoistingMeetsDemands =
 -- an expression has the same width among the slots of the graph as among the named ones
 abbrev pub HoistingKeepsWidth : Type 0
 HoistingKeepsWidth =
-    (unit : TranslationUnit) (f : Function) (e : Expr) (place : Place) (node : ℕ) (d : FlowGraph) → IsTrue (is_made_expr unit f e) → Within f (hoisted_expr e place node d).1.flow
+    (unit : TranslationUnit) (f : Function) (e : Expr) (place : Place) (node : ℕ) (d : FlowGraph) → IsTrue (is_made_expr unit f e) → 2 ≤ next_node d → Within f (hoisted_expr e place node d).1.flow
     → width_of (hoisted_expr e place node d).0 (graph_slots f) ≡ width_of e f.slots
 
 -- What a statement is lowered to, wherever it is met in a body, is on the way to the function's graph

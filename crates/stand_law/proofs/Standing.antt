@@ -25,7 +25,7 @@ use Rattle.stand_law.specs.Laws.{InputsKeepStanding, IsHoistedAlong, MissingIsAw
 
 -- ---- one input more
 
-input_more : (slots : List Slot) (edges : List MarkedEdge) (ins : List ℤ) (m mid next : Moment) (n : ℤ) → moment_along slots edges ins m ≡ Some mid → moment_with_input edges n mid ≡ Some next
+pub input_more : (slots : List Slot) (edges : List MarkedEdge) (ins : List ℤ) (m mid next : Moment) (n : ℤ) → moment_along slots edges ins m ≡ Some mid → moment_with_input edges n mid ≡ Some next
     → moment_along slots edges (ins ++ n ∷ []) m ≡ Some (settled_from slots edges next).1
 input_more slots edges [] m mid next n at taken =
     ap (λ (x : Moment). option_and_then (moment_along slots edges []) (moment_with_input edges n x)) (same_Some (settled_from slots edges m).1 mid at)
@@ -69,7 +69,7 @@ still_among slots m d (a ∷ b ∷ []) found loud among one by =
     (by.1 (not_silent slots a m both.0)).1 (not_silent slots b m both.1)
 still_among slots m d (a ∷ b ∷ c ∷ ds) found loud among one by = absurd one
 
-still : (f : Function) (m : Moment) (act : Action) (to : ℕ) → HasEdge f false m.node act to → silent_from (graph_slots f) (flow_of f).edges 0 m ≡ None
+pub still : (f : Function) (m : Moment) (act : Action) (to : ℕ) → HasEdge f false m.node act to → silent_from (graph_slots f) (flow_of f).edges 0 m ≡ None
 still f m act to edge =
     let d : MarkedEdge = record { edge = record { from = m.node; act = act; to = to }; silent = false } in
     still_among (graph_slots f) m d (leaving m.node (flow_of f).edges) (silent_from (graph_slots f) (flow_of f).edges 0 m) refl (leaves_among f d m.node edge (same_node m.node)) (one_way_out f m.node)
@@ -82,7 +82,7 @@ module _ (unit : TranslationUnit) (f : Function) (e : Expr) (place : Place) (n :
   Met a = Meets f n values ins (hoisted_expr e place n d).1.at (λ v new. value_of (hoisted_expr e place n d).0 (graph_slots f) new ≡ Ok v) a.0 a.1
 
   met : Met (demand_of e f.slots (take (length f.slots) values) ins)
-  met = hoisting_meets_demand unit f e place n d values ins h.made h.within h.room
+  met = hoisting_meets_demand unit f e place n d values ins h.made h.nodes h.within h.room
 
 pub values_are_there : ValuesAreThere
 values_are_there unit f e place n d values ins node slots v act to h is edge =

@@ -3,7 +3,7 @@
 --
 -- A reader should check: that the graph's node and slots are those of the moment along the very inputs
 -- that the tree's demand takes.
-use Rattle.std.specs.Prelude.{◌≡◌, ◌≢◌, ℕ, ℤ, false, List, [], ◌∷◌, ◌++◌, IsTrue, length, take, Some, Ok, Err, slice_set}
+use Rattle.std.specs.Prelude.{◌≡◌, ◌≢◌, ◌≤◌, ℕ, ℤ, false, List, [], ◌∷◌, ◌++◌, IsTrue, length, take, Some, Ok, Err, slice_set}
 use Rattle.gob_tree.specs.WellMade.{is_made_expr}
 use Rattle.gob_tree.specs.declared.expr.Expr.{Expr}
 use Rattle.gob_tree.specs.declared.graph.Action.{Action}
@@ -14,7 +14,7 @@ use Rattle.c_meaning.specs.declared.config.Todo.{Todo}
 use Rattle.c_meaning.specs.declared.demand.Demand.{Demand}
 use Rattle.c_meaning.specs.declared.demand.Demand.TheVariants.{Fault}
 use Rattle.c_meaning.specs.Demand.{demand_of, value_of}
-use Rattle.c_meaning.specs.Graph.{FlowGraph, flow_of, graph_slots, hoisted_expr}
+use Rattle.c_meaning.specs.Graph.{FlowGraph, flow_of, graph_slots, hoisted_expr, next_node}
 use Rattle.c_meaning.specs.Walk.{Moment, StandsAt, input_slot, moment_along, settled_from}
 use Rattle.graph_law.specs.Laying.{HasEdge}
 use Rattle.hoist_law.specs.Hoisting.{WaitsFor, Within}
@@ -34,6 +34,7 @@ InputsKeepStanding =
 -- A moment along inputs from where an expression that may stand in the function is hoisted.
 pub record IsHoistedAlong (unit : TranslationUnit) (f : Function) (e : Expr) (place : Place) (n : ℕ) (d : FlowGraph) (values ins : List ℤ) (node : ℕ) (slots : List ℤ) : Type 0 where
   pub made : IsTrue (is_made_expr unit f e)
+  pub nodes : 2 ≤ next_node d
   pub within : Within f (hoisted_expr e place n d).1.flow
   pub room : length values ≡ length (graph_slots f)
   pub along : moment_along (graph_slots f) (flow_of f).edges ins (record { node = n; slots = values }) ≡ Some (record { node = node; slots = slots })
