@@ -1,9 +1,9 @@
 -- Raises come to the same where what arises has arisen before.
 use Rattle.std.proofs.Common.{◌≡◌, ◌≢◌, ◌⊎◌, inl, inr, ℤ, Bool, true, false, cond, List, [], ◌∷◌, ◌++◌, Option, None, Some, refl, sym, ap, ◌∙◌, subst, is_some, true≢false, append_assoc}
-use Rattle.std.specs.Prelude.{All, IsPermutation, IsSome, IsSomeAnd, filter, is_none}
+use Rattle.std.specs.Prelude.{All, IsSome, IsSomeAnd, filter, is_none}
 use Rattle.std.proofs.lemmas.List.Elements.{All-nil, All-cons, All-head, All-tail, All-weaker, filter_agree}
 use Rattle.gob_tree.specs.declared.graph.Program.{Program}
-use Rattle.state_dom.specs.ThresholdValues.{thresholds_of}
+use Rattle.state_dom.specs.ThresholdValues.{thresholds_of, AreThresholdsOf}
 use Rattle.constraint_sys.specs.declared.unknown.Unknown.{Unknown}
 use Rattle.constraint_sys.specs.declared.value.Effect.{Effect}
 use Rattle.constraint_sys.specs.declared.value.Value.{Value}
@@ -14,7 +14,7 @@ use Rattle.constraint_sys.specs.Table.{TableValue, IsThere, unknown_eq, value_at
 use Rattle.constraint_sys.specs.Turn.{arising, fellows, is_absent, raised_entry, raised_in, raised_in_each, raised_value}
 use Rattle.constraint_sys.proofs.Covering.{AreAlike-raised, AreAlike-shaped, CoversValue-refl, raised_value-same}
 use Rattle.constraint_sys.proofs.Entries.{cases_unknown, there_value, unknown_eq-refl, value_at-absent, value_at-head, value_at-kept, value_at-other, value_at-set}
-use Rattle.constraint_sys.proofs.SameMarks.{raised_value-permuted}
+use Rattle.constraint_sys.proofs.SameMarks.{raised_value-members}
 use Rattle.constraint_sys.proofs.Raising.{Grows, Grows-arising, Grows-refl, Grows-trans, All-CanRaise_grown}
 
 -- ---- entries that are set
@@ -226,7 +226,7 @@ begins_still old t xs new begins is = (begins.0 ++ xs, is ∙ ap (λ (s : TableV
 -- ---- one raise in place
 pub record RaisesInPlace (marks : List ℤ) (t new : TableValue) (e : Effect) (es : List Effect) : Type 0 where
   pub alike : All (IsLike new) es
-  pub raised : (p : Program) → IsPermutation (thresholds_of p) marks → raised_in p t e.target e.value ≡ new
+  pub raised : (p : Program) → AreThresholdsOf p marks → raised_in p t e.target e.value ≡ new
 
 in_place : (marks : List ℤ) (t new : TableValue) (e : Effect) (es : List Effect) → All (IsLike t) (e ∷ es) → ((old : Value) → value_at t e.target ≡ Some old → new ≡ with_value t e.target (raised_value marks old e.value))
     → (o : Option Value) → value_at t e.target ≡ o → RaisesInPlace marks t new e es
@@ -238,7 +238,7 @@ in_place marks t new e es alike made (Some old) at =
     record {
       alike = subst (λ (s : TableValue). All (IsLike s) es) (sym is)
           (All-weaker (IsLike t) (IsLike (with_value t e.target w)) (λ x one. like_case t e x old w at one (cases_unknown x.target e.target) (λ before. AreAlike-raised marks old e.value x.value here before)) es (All-tail (IsLike t) e es alike));
-      raised = λ p moved. ap (raised_entry p t e.target e.value) at ∙ ap (λ (v : Value). with_value t e.target v) (raised_value-permuted (thresholds_of p) marks moved old e.value) ∙ sym is;
+      raised = λ p same. ap (raised_entry p t e.target e.value) at ∙ ap (λ (v : Value). with_value t e.target v) (raised_value-members (thresholds_of p) marks same old e.value) ∙ sym is;
     }
 
 pub RaisesInPlace-made : (marks : List ℤ) (t new : TableValue) (e : Effect) (es : List Effect) → All (IsLike t) (e ∷ es) → ((old : Value) → value_at t e.target ≡ Some old → new ≡ with_value t e.target (raised_value marks old e.value)) → RaisesInPlace marks t new e es

@@ -1,15 +1,15 @@
 -- A raise goes by the members of the thresholds, in whatever order they stand.
 use Rattle.std.proofs.Common.{◌≡◌, ℤ, ◌≤ℤ◌, Bool, List, [], ◌∷◌, refl, sym, ap, subst, inl, inr, arith}
-use Rattle.std.specs.Prelude.{Contains, IsPermutation, filter, fold, int_le}
+use Rattle.std.specs.Prelude.{Contains, filter, fold, int_le}
 use Rattle.std.specs.Int.{int_min, int_max}
 use Rattle.std.proofs.lemmas.Int.{ints, fold-int_max_bounds, fold-int_max_reached, fold-int_min_bounds, fold-int_min_reached}
 use Rattle.std.proofs.lemmas.List.Elements.{All-contains}
-use Rattle.std.proofs.lemmas.List.Sorted.{Contains-permutation, IsPermutation-sym}
 use Rattle.interval_dom.specs.declared.width.Width.TheVariants.{W64}
 use Rattle.interval_dom.specs.Bounds.{Bounds}
 use Rattle.interval_dom.specs.Marks.{mark_below, mark_above, widened}
 use Rattle.interval_dom.specs.Ranges.{least, greatest}
 use Rattle.state_dom.specs.StateValue.{StateValue, Bottom, Reached, on_each, raised_by}
+use Rattle.state_dom.specs.ThresholdValues.{HasSameMembers}
 use Rattle.constraint_sys.specs.declared.value.Value.{Value}
 use Rattle.constraint_sys.specs.declared.value.Value.TheVariants.{State, Number}
 use Rattle.constraint_sys.specs.Turn.{raised_value}
@@ -57,12 +57,8 @@ module _ (xs ys : List ℤ) (there : (z : ℤ) → Contains xs z → Contains ys
   raised_by-same (Reached slots locks) (Bottom room) = refl
   raised_by-same (Reached slots locks) (Reached others other_locks) = rw (on_each-same slots others) refl
 
-pub raised_by-permuted : (xs ys : List ℤ) → IsPermutation xs ys → (a b : StateValue) → raised_by xs a b ≡ raised_by ys a b
-raised_by-permuted xs ys moved a b = raised_by-same xs ys (λ z. Contains-permutation xs ys z moved) (λ z. Contains-permutation ys xs z (IsPermutation-sym xs ys moved)) a b
-
-pub raised_value-permuted : (xs ys : List ℤ) → IsPermutation xs ys → (old new : Value) → raised_value xs old new ≡ raised_value ys old new
-raised_value-permuted xs ys moved (State a) (State b) = ap State (raised_by-permuted xs ys moved a b)
-raised_value-permuted xs ys moved (State a) (Number y) = refl
-raised_value-permuted xs ys moved (Number x) (State b) = refl
-raised_value-permuted xs ys moved (Number x) (Number y) =
-    ap Number (widened-same xs ys (λ z. Contains-permutation xs ys z moved) (λ z. Contains-permutation ys xs z (IsPermutation-sym xs ys moved)) x y)
+pub raised_value-members : (xs ys : List ℤ) → HasSameMembers xs ys → (old new : Value) → raised_value xs old new ≡ raised_value ys old new
+raised_value-members xs ys same (State a) (State b) = ap State (raised_by-same xs ys (λ z. (same z).0) (λ z. (same z).1) a b)
+raised_value-members xs ys same (State a) (Number y) = refl
+raised_value-members xs ys same (Number x) (State b) = refl
+raised_value-members xs ys same (Number x) (Number y) = ap Number (widened-same xs ys (λ z. (same z).0) (λ z. (same z).1) x y)

@@ -1,9 +1,9 @@
 -- The edges of a program by the node in which they end and by the one in which they begin.
-use Rattle.std.specs.Prelude.{◌≡◌, ℕ, ◌+◌, Bool, nat_eq, IsPermutation, Option, None, List, [], ◌∷◌, ◌++◌, slice_get, Some, if◌then◌else◌}
+use Rattle.std.specs.Prelude.{◌≡◌, ℕ, ◌+◌, Bool, nat_eq, Option, None, List, [], ◌∷◌, ◌++◌, slice_get, Some, if◌then◌else◌}
 use Rattle.std.specs.Option.{option_to_list}
 use Rattle.gob_tree.specs.declared.graph.Edge.{Edge}
 use Rattle.gob_tree.specs.declared.graph.Program.{Program}
-use Rattle.state_dom.specs.ThresholdValues.{thresholds_of}
+use Rattle.state_dom.specs.ThresholdValues.{AreThresholdsOf}
 use Rattle.constraint_sys.specs.declared.system.End.{End}
 use Rattle.constraint_sys.specs.declared.system.End.TheVariants.{To, From}
 use Rattle.constraint_sys.specs.declared.system.System.{System}
@@ -60,6 +60,6 @@ IsIndexOf p end index = (f node : ℕ) → row_at index f node ≡ numbers_where
 
 -- what is looked up is that of the program
 pub record IsSystemOf (p : Program) (s : System) : Type 0 where
-  pub thresholds : IsPermutation (thresholds_of p) s.thresholds
+  pub thresholds : AreThresholdsOf p s.thresholds
   pub into : (f node : ℕ) → row_at s.ends f node ≡ numbers_into p f node
   pub out_of : (f node : ℕ) → row_at s.starts f node ≡ numbers_out_of p f node

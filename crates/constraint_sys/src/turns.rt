@@ -1,10 +1,10 @@
 //! One turn: a dirty point is raised by its contribution.
-ghost use Rattle.std.specs.Prelude.{◌≡◌, ◌≢◌, ◌⊎◌, ◌↔◌, All, Contains, IfOk, IsPermutation, OnOk, OnErr, IsTrue, Some, length, take};
+ghost use Rattle.std.specs.Prelude.{◌≡◌, ◌≢◌, ◌⊎◌, ◌↔◌, All, Contains, IfOk, OnOk, OnErr, IsTrue, Some, length, take};
 ghost use Rattle.std.specs.List.{IsDistinct};
 ghost use Rattle.std.specs.Map.{keys_of};
 ghost use Rattle.gob_tree.specs.Formed.{IsFormed};
 ghost use Rattle.gob_tree.specs.declared.graph.Program.{Program as TheProgram};
-ghost use Rattle.state_dom.specs.ThresholdValues.{thresholds_of};
+ghost use Rattle.state_dom.specs.ThresholdValues.{AreThresholdsOf};
 ghost use Rattle.constraint_sys.specs.Arising.{CanRaise, IsInner, IsLike, IsNewAt, arisen_in_each};
 ghost use Rattle.constraint_sys.specs.Index.{IsSystemOf};
 ghost use Rattle.constraint_sys.specs.Sound.{IsShaped, CanTurn};
@@ -190,7 +190,7 @@ fn is_inner(u: &Unknown) -> bool
 /// Raises each target, which is there; takes no memory.
 fn raise_each(table: &mut Table, raises: &[Effect], marks: &Thresholds)
     requires alike { All (IsLike table.old) raises.now }
-    ensures { (p : TheProgram) → IsPermutation (thresholds_of p) marks.now → table.new ≡ raised_in_each p table.old raises.now }
+    ensures { (p : TheProgram) → AreThresholdsOf p marks.now → table.new ≡ raised_in_each p table.old raises.now }
 {
     for e in raises {
         table.raise(&e.target, &e.value, marks);

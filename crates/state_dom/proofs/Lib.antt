@@ -11,4 +11,6 @@ pub mod Ordering
 pub mod Rests
 pub mod Slots
 pub mod Splitting
+pub mod StateExampleProofs
+pub mod Thresholding
 pub mod Values

@@ -4,5 +4,6 @@ pub mod Examples
 pub mod Laws
 pub mod Operators
 pub mod Splits
+pub mod StateExamples
 pub mod StateValue
 pub mod ThresholdValues

@@ -1,6 +1,6 @@
 -- The thresholds of a program: where an end of an interval comes to rest once it moves.
-use Rattle.std.specs.Prelude.{ℤ, pos, ◌+ℤ◌, ◌-ℤ◌, Bool, true, false, ◌||◌, List, [], ◌∷◌, ◌++◌, map, if◌then◌else◌}
-use Rattle.std.specs.List.{list_any, flat_map}
+use Rattle.std.specs.Prelude.{◌↔◌, ℤ, pos, ◌+ℤ◌, ◌-ℤ◌, Bool, true, false, ◌||◌, List, [], ◌∷◌, ◌++◌, map, if◌then◌else◌}
+use Rattle.std.specs.List.{Contains, list_any, flat_map}
 use Rattle.gob_tree.specs.Widths.{fits, lowest, greatest}
 use Rattle.gob_tree.specs.declared.expr.Expr.{Expr}
 use Rattle.gob_tree.specs.declared.expr.Expr.TheOpen.{Expr-F}
@@ -76,10 +76,19 @@ fitting w n = if fits w n then n ∷ [] else []
 abbrev pub neighbours : Width → ℤ → List ℤ
 neighbours w c = fitting w (c -ℤ pos 1) ++ fitting w c ++ fitting w (c +ℤ pos 1)
 
--- The thresholds: each number of the program with its neighbours, the ends of int, and the ends of
--- long where a slot or a global is one.
+-- The thresholds, one by one: each number of the program with its neighbours, the ends of int, and the
+-- ends of long where a slot or a global is one. A number may stand here twice: what counts is which
+-- numbers are thresholds.
 abbrev pub thresholds_of : Program → List ℤ
 thresholds_of p =
     flat_map (neighbours (widest p)) (numbers_of_program p)
     ++ ends_of_type W32
     ++ (if has_wide p then ends_of_type W64 else [])
+
+-- a list of numbers has just the members of another, in whatever order and however often
+abbrev pub HasSameMembers : List ℤ → List ℤ → Type 0
+HasSameMembers xs ys = (n : ℤ) → Contains xs n ↔ Contains ys n
+
+-- these numbers are the thresholds of a program
+abbrev pub AreThresholdsOf : Program → List ℤ → Type 0
+AreThresholdsOf p marks = HasSameMembers (thresholds_of p) marks

@@ -1,4 +1,4 @@
-//! Guards and evaluations worked out by hand.
+//! Guards, evaluations, thresholds, and what states are to each other, worked out by hand.
 ghost use Rattle.std.specs.Prelude.{◌≡◌, [], ◌∷◌, None, Some, true, false, pos, negsuc};
 ghost use Rattle.gob_tree.specs.declared.expr.BinOp.TheVariants.{And as Both, Or as Either};
 ghost use Rattle.gob_tree.specs.declared.expr.Expr.{Local as Slot, Unary as Prefix, Binary as Infix};
@@ -6,7 +6,11 @@ ghost use Rattle.gob_tree.specs.declared.expr.UnOp.TheVariants.{Not as Negated};
 ghost use Rattle.interval_dom.specs.Bounds.{between};
 ghost use Rattle.state_dom.specs.Evaluation.{interval_of, guarded_by};
 ghost use Rattle.state_dom.specs.Examples.{two_ints, two_longs, both, to_ten, five_to_eight, just, less, less_than_itself, equal, either_side, inside, no_value, one_more, small_program, wide_program, int_program};
-ghost use Rattle.state_dom.specs.StateValue.{Bottom, Reached, raised_by};
+ghost use Rattle.c_meaning.specs.Demand.{with_slot};
+ghost use Rattle.gob_tree.specs.declared.expr.Width.TheVariants.{W32 as Int, W64 as Long};
+ghost use Rattle.state_dom.specs.Operators.{converted_to, full_of};
+ghost use Rattle.state_dom.specs.StateExamples.{one, an_int, a_long, one_to_ten, to_nine, above_int, to_above_int, second_mutex, third_mutex, two_mutexes, three_and_five, owners, known};
+ghost use Rattle.state_dom.specs.StateValue.{Bottom, Reached, raised_by, join_of, CoversState, DescribesState, HasShape, Narrows};
 ghost use Rattle.state_dom.specs.ThresholdValues.{thresholds_of};
 
 /// What guards leave: both operands of a comparison, the right one by the left one's new interval;
@@ -52,4 +56,63 @@ pub fn raises_by_hand()
     ensures on_threshold { raised_by (negsuc 4 ∷ pos 0 ∷ pos 9 ∷ pos 20 ∷ []) (Reached (between (pos 1) (pos 2) ∷ []) 0) (Reached (between (pos 0) (pos 20) ∷ []) 0) ≡ Reached (between (pos 0) (pos 20) ∷ []) 0 }
     ensures stays { raised_by (negsuc 4 ∷ pos 0 ∷ pos 9 ∷ pos 20 ∷ []) (Reached (between (pos 1) (pos 5) ∷ []) 1) (Reached (between (pos 2) (pos 3) ∷ []) 1) ≡ Reached (between (pos 1) (pos 5) ∷ []) 1 }
     ensures from_bottom { raised_by (negsuc 4 ∷ pos 0 ∷ pos 9 ∷ pos 20 ∷ []) (Bottom 1) (Reached (between (pos 2) (pos 3) ∷ []) 1) ≡ Reached (between (pos 2) (pos 3) ∷ []) 1 }
+{}
+
+/// The order of states: the outer one has intervals at least as wide, and no mutex that the inner
+/// one lacks; all bound Bottom, and Bottom nothing else.
+pub fn order_by_hand()
+    ensures wider { CoversState (one to_ten 0) (one five_to_eight 0) }
+    ensures fewer_mutexes { CoversState (one to_ten second_mutex) (one to_ten two_mutexes) }
+    ensures over_bottom { CoversState (one to_ten 0) (Bottom 1) }
+    ensures low_end { ¬ CoversState (one one_to_ten 0) (one to_ten 0) }
+    ensures high_end { ¬ CoversState (one to_nine 0) (one to_ten 0) }
+    ensures more_mutexes { ¬ CoversState (one to_ten two_mutexes) (one to_ten second_mutex) }
+    ensures from_bottom { ¬ CoversState (Bottom 1) (one to_ten 0) }
+    ensures other_room { ¬ CoversState (Reached (to_ten ∷ to_ten ∷ []) 0) (one to_ten 0) }
+    ensures join { join_of (one to_nine two_mutexes) (one one_to_ten third_mutex) ≡ one to_ten third_mutex }
+    ensures join_bottom { join_of (Bottom 1) (one to_ten two_mutexes) ≡ one to_ten two_mutexes }
+{}
+
+/// What a state describes: numbers in its intervals and of the slots' widths, and mutexes that the
+/// thread owns; Bottom describes nothing.
+pub fn descriptions_by_hand()
+    ensures described { DescribesState two_ints known three_and_five owners 7 }
+    ensures below { ¬ DescribesState two_ints known (negsuc 0 ∷ pos 5 ∷ []) owners 7 }
+    ensures above { ¬ DescribesState two_ints known (pos 3 ∷ pos 9 ∷ []) owners 7 }
+    ensures not_of_the_width { ¬ DescribesState an_int (one to_above_int 0) (above_int ∷ []) [] 7 }
+    ensures of_the_width { DescribesState a_long (one to_above_int 0) (above_int ∷ []) [] 7 }
+    ensures owned_by_another { ¬ DescribesState two_ints known three_and_five owners 1 }
+    ensures owned_by_nobody { ¬ DescribesState two_ints known three_and_five (None ∷ None ∷ []) 7 }
+    ensures a_value_less { ¬ DescribesState two_ints known (pos 3 ∷ []) owners 7 }
+    ensures bottom { ¬ DescribesState two_ints (Bottom 2) three_and_five owners 7 }
+{}
+
+/// Shapes and narrowing: an interval for each slot, in its width; the same room and mutexes with
+/// narrower intervals, or Bottom.
+pub fn shapes_by_hand()
+    ensures in_width { HasShape an_int (one to_ten 0) }
+    ensures in_wide_width { HasShape a_long (one to_above_int 0) }
+    ensures bottom_has_room { HasShape an_int (Bottom 1) }
+    ensures out_of_width { ¬ HasShape an_int (one to_above_int 0) }
+    ensures slot_too_many { ¬ HasShape an_int (Reached (to_ten ∷ to_ten ∷ []) 0) }
+    ensures other_room { ¬ HasShape an_int (Bottom 2) }
+    ensures narrower { Narrows (one to_ten 1) (one to_nine 1) }
+    ensures to_bottom { Narrows (one to_ten 1) (Bottom 1) }
+    ensures not_wider { ¬ Narrows (one to_nine 1) (one to_ten 1) }
+    ensures not_other_mutexes { ¬ Narrows (one to_ten 1) (one to_ten 0) }
+    ensures not_from_bottom { ¬ Narrows (Bottom 1) (one to_ten 0) }
+{}
+
+/// Arbitrary numbers and stores: all numbers of each width; a sum of an arbitrary long wraps at 64
+/// bits; a long that goes into an int slot is any int unless it fits; and the state after such a store
+/// describes the converted number, where the unconverted interval doesn't.
+pub fn stores_by_hand()
+    ensures any_int { full_of Int ≡ between (negsuc 2147483647) (pos 2147483647) }
+    ensures any_long { full_of Long ≡ between (negsuc 9223372036854775807) (pos 9223372036854775807) }
+    ensures any_long_sum { interval_of two_longs (full_of Long ∷ to_ten ∷ []) one_more ≡ Some (full_of Long) }
+    ensures fitting { converted_to Int to_ten ≡ to_ten }
+    ensures long_into_int { converted_to Int (just above_int) ≡ full_of Int }
+    ensures long_into_long { converted_to Long (just above_int) ≡ just above_int }
+    ensures stored { DescribesState an_int (one (converted_to Int (just above_int)) 0) (with_slot an_int 0 above_int (pos 3 ∷ [])) [] 7 }
+    ensures stored_as_it_is { ¬ DescribesState an_int (one (just above_int) 0) (with_slot an_int 0 above_int (pos 3 ∷ [])) [] 7 }
 {}

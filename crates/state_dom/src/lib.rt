@@ -12,7 +12,10 @@ mod state;
 mod thresholds;
 
 pub use evaluation::{assign, eval, slot_width};
-pub use examples::{evaluations_by_hand, guards_by_hand, raises_by_hand, thresholds_by_hand};
+pub use examples::{
+    descriptions_by_hand, evaluations_by_hand, guards_by_hand, order_by_hand, raises_by_hand,
+    shapes_by_hand, stores_by_hand, thresholds_by_hand,
+};
 pub use guarding::guard;
 pub use law::{
     assignment_describes, evaluation_describes, guard_keeps, guard_narrows, joins_and_raises_bound,

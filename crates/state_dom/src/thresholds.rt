@@ -1,59 +1,81 @@
-ghost use Rattle.std.specs.Prelude.{◌≡◌, [], ◌∷◌, ◌++◌, IfOk, OnOk, IsPermutation, IsSorted, map, if◌then◌else◌, pos, ◌+ℤ◌, ◌-ℤ◌};
+ghost use Rattle.std.specs.Prelude.{◌≡◌, [], ◌∷◌, ◌++◌, IfOk, OnOk, IsSorted, map, if◌then◌else◌, pos, ◌+ℤ◌, ◌-ℤ◌};
+ghost use Rattle.std.specs.List.Sorted.{IsStrictlySortedBy};
 ghost use Rattle.std.specs.Ordering.{int_cmp};
 ghost use Rattle.std.specs.List.{flat_map, list_any};
 ghost use Rattle.gob_tree.specs.Widths.{fits, lowest, greatest};
 ghost use Rattle.gob_tree.specs.declared.graph.FuncGraph.{FuncGraph as TheFunction};
 ghost use Rattle.gob_tree.specs.declared.unit.GlobalDecl.{GlobalDecl as TheGlobal};
 ghost use Rattle.gob_tree.specs.declared.unit.Slot.{Slot as TheSlot};
-ghost use Rattle.state_dom.specs.ThresholdValues.{numbers_of, numbers_of_action, numbers_of_edges, numbers_of_program, neighbours, fitting, ends_of_type, thresholds_of, has_wide, is_wide, widest};
+ghost use Rattle.state_dom.specs.ThresholdValues.{numbers_of, numbers_of_action, numbers_of_edges, numbers_of_program, neighbours, fitting, ends_of_type, thresholds_of, has_wide, is_wide, widest, HasSameMembers, AreThresholdsOf};
 
 use gob_tree::{Action, Edge, Expr, FuncGraph, GlobalDecl, Memory, Program, Width};
 use std::alloc::Global;
 use std::marker::Model;
 
-/// The numbers at which an end of an interval comes to rest once it moves, in ascending order.
+/// The numbers at which an end of an interval comes to rest once it moves: a set, kept in ascending
+/// order, each number once.
 #[derive(Debug, Drop)]
 pub struct Thresholds {
     marks: Vec<i64>,
 }
 
 impl Model for Thresholds {
-    ghost use Rattle.std.specs.Prelude.{List, ℤ, IsSorted};
+    ghost use Rattle.std.specs.Prelude.{List, ℤ};
+    ghost use Rattle.std.specs.List.Sorted.{IsStrictlySortedBy};
     ghost use Rattle.std.specs.Ordering.{int_cmp};
 
     ghost Value = { List ℤ };
 
     ghost view = { λ t. t.marks.items };
 
-    ghost invariant = { λ t. IsSorted int_cmp t.marks.items };
+    ghost invariant = { λ t. IsStrictlySortedBy int_cmp t.marks.items };
 }
 
 impl Thresholds {
     /// The thresholds of a program: each number in its edges and each initial value with its two
     /// neighbours, and the ends of its types. `Memory` is want of memory.
     pub fn of(alloc: Global, program: &Program) -> Result<Thresholds, Memory>
-        ensures { IfOk result (λ t. IsPermutation (thresholds_of program.now) t) }
+        ensures { IfOk result (λ t. AreThresholdsOf program.now t) }
     {
-        let wide = has_wide(program);
-        let widest = if wide { Width::W64 } else { Width::W32 };
-        let numbers = numbers_of_program(alloc, program)?;
-        let mut marks = Vec::new(alloc);
-        push_all_neighbours(&mut marks, &numbers, widest)?;
-        push_ends(&mut marks, Width::W32)?;
-        if wide {
-            push_ends(&mut marks, Width::W64)?;
-        }
+        let mut marks = listed(alloc, program)?;
         marks.sort()?;
+        keep_each_once(&mut marks);
         Ok(Thresholds { marks })
     }
 
-    /// The thresholds, in ascending order.
+    /// The thresholds, in ascending order, each once.
     pub fn as_slice(&self) -> &[i64]
         ensures value { result.now ≡ self.now }
         ensures ascending { IsSorted int_cmp self.now }
+        ensures once { IsStrictlySortedBy int_cmp self.now }
     {
         self.marks.as_slice()
     }
+}
+
+/// The thresholds one by one, as the definition lists them.
+fn listed(alloc: Global, program: &Program) -> Result<Vec<i64>, Memory>
+    ensures { IfOk result (λ marks. marks.items ≡ thresholds_of program.now) }
+{
+    let wide = has_wide(program);
+    let widest = if wide { Width::W64 } else { Width::W32 };
+    let numbers = numbers_of_program(alloc, program)?;
+    let mut marks = Vec::new(alloc);
+    push_all_neighbours(&mut marks, &numbers, widest)?;
+    push_ends(&mut marks, Width::W32)?;
+    if wide {
+        push_ends(&mut marks, Width::W64)?;
+    }
+    Ok(marks)
+}
+
+/// Leaves of an ascending list each number once.
+fn keep_each_once(marks: &mut Vec<i64>)
+    requires { IsSorted int_cmp marks.old.items }
+    ensures once { IsStrictlySortedBy int_cmp marks.new.items }
+    ensures same { HasSameMembers marks.old.items marks.new.items }
+{
+    marks.dedup();
 }
 
 fn has_wide(program: &Program) -> bool

@@ -20,5 +20,5 @@ loop-e-preserved c =
     let made : RaisesInPlace c.args.marks.now t new e rest = RaisesInPlace-made c.args.marks.now t new e rest (subst (λ (l : List Effect). All (IsLike t) l) front c.loop-e.invariant.alike) c.raise.ensures in
     record {
       alike = made.alike;
-      raised = λ p moved. ap (λ (s : TableValue). raised_in_each p s rest) (sym (made.raised p moved)) ∙ ap (raised_in_each p t) (sym front) ∙ c.loop-e.invariant.raised p moved;
+      raised = λ p same. ap (λ (s : TableValue). raised_in_each p s rest) (sym (made.raised p same)) ∙ ap (raised_in_each p t) (sym front) ∙ c.loop-e.invariant.raised p same;
     }

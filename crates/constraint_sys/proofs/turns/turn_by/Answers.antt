@@ -1,6 +1,6 @@
 use Rattle.std.proofs.Common.{◌≡◌, ◌≢◌, ◌↔◌, ◌⊎◌, ℤ, List, sym, ap, ◌∙◌, subst}
-use Rattle.std.specs.Prelude.{All, Contains, IsPermutation}
-use Rattle.state_dom.specs.ThresholdValues.{thresholds_of}
+use Rattle.std.specs.Prelude.{All, Contains}
+use Rattle.state_dom.specs.ThresholdValues.{AreThresholdsOf}
 use Rattle.constraint_sys.specs.Arising.{CanRaise, IsLike, arisen_in_each}
 use Rattle.constraint_sys.specs.Table.{TableValue}
 use Rattle.constraint_sys.specs.Turn.{IsBrought, raised_in_each, raises_of}
@@ -39,7 +39,7 @@ returns-clause-turned c =
     let is : es ≡ raises_of p t u = c.as_slice-list.ensures ∙ c.requires.plan in
     let arisen : c.begin.new.table ≡ arisen_in_each p t (raises_of p t u) = c.in_ok-begin.ensures.table ∙ ap (arisen_in_each p t) is in
     let final : c.raise_each.new.table ≡ raised_in_each p t (raises_of p t u) =
-    c.raise_each.ensures p (subst (λ (marks : List ℤ). IsPermutation (thresholds_of p) marks) (sym c.thresholds.ensures) c.requires.system.thresholds)
+    c.raise_each.ensures p (subst (λ (marks : List ℤ). AreThresholdsOf p marks) (sym c.thresholds.ensures) c.requires.system.thresholds)
     ∙ (λ i. raised_in_each p (arisen i) (is i))
     ∙ raised_arisen p t (raises_of p t u) in
     Turns-made p t dirty c.begin.new.dirty awake u c.raise_each.new.table c.requires.is_dirty final
