@@ -86,7 +86,7 @@ impl Table {
 
     /// Adds an unknown that isn't in the table; `Memory` is want of memory, and leaves the table
     /// as it was.
-    pub(crate) fn add(&mut self, u: Unknown, v: Value) -> Result<(), Memory>
+    pub fn add(&mut self, u: Unknown, v: Value) -> Result<(), Memory>
         requires { value_at self.old u ≡ None }
         ensures ok { OnOk result (self.new ≡ self.old ++ (u, v) ∷ []) }
         ensures others { (q : TheUnknown) → OnOk result (q ≢ u → value_at self.new q ≡ value_at self.old q) }
@@ -102,8 +102,8 @@ impl Table {
         self.map.truncate(len);
     }
 
-    /// The unknown of an entry, counted from 0 in the order of arising.
-    pub(crate) fn unknown(&self, index: usize) -> Option<Unknown>
+    /// The unknown of an entry, counted from 0 in the order of arising; `None` exactly past the last.
+    pub fn unknown(&self, index: usize) -> Option<Unknown>
         ensures { result ≡ slice_get (keys_of self.now) index }
     {
         match self.map.get_index(index) {
@@ -138,7 +138,7 @@ impl Table {
     }
 
     /// Gives an unknown of the table another value; takes no memory.
-    pub(crate) fn set(&mut self, u: &Unknown, v: Value)
+    pub fn set(&mut self, u: &Unknown, v: Value)
         requires { IsThere self.old u.now }
         ensures { self.new ≡ with_value self.old u.now v }
     {
