@@ -4,3 +4,8 @@ mod Tops
 mod Deciding
 mod Ending
 mod Stacks
+mod Moving
+mod Finding
+mod Picking
+mod Growing
+mod Does

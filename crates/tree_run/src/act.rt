@@ -1,4 +1,4 @@
-ghost use Rattle.std.specs.Prelude.{◌≡◌, OnOk, OnErr, Some, slice_set};
+ghost use Rattle.std.specs.Prelude.{◌≡◌, IfOk, OnOk, OnErr, Some, slice_set};
 ghost use Rattle.c_meaning.specs.Demand.{with_slot};
 ghost use Rattle.c_meaning.specs.Tree.{frame_after, rest_of, func_slots, caller_after};
 ghost use Rattle.tree_run.specs.Deeds.{after_way};
@@ -24,6 +24,15 @@ fn put(values: &mut Vec<i64>, x: u16, number: i64)
 }
 
 impl<'u> Frame<'u> {
+    /// Unrolls what stands in front, and gives it. The frame shows the same before and after; after
+    /// want of memory too.
+    pub(crate) fn settle(&mut self) -> Result<Option<Next<'u>>, Memory>
+        ensures same { shown self.new ≡ shown self.old }
+        ensures ready { IfOk result (IsReady self.new.todo.items) }
+    {
+        settle(&mut self.todo)
+    }
+
     /// What stands in front is done, and what comes behind it comes next.
     pub(crate) fn pass(&mut self, next: Next<'u>)
         requires { IsReady self.old.todo.items (Some next) }

@@ -27,25 +27,39 @@ pub(crate) enum Way<'u> {
     Continue,
 }
 
-/// What a step does: nothing yet, a fault, one more input, a call, a return of this number, or the
-/// statement itself, which may store a slot, write a global, change a mutex's owner, or start a
-/// thread and keep it in a variable.
+/// What a step makes of the frames of its thread: the topmost one gets an input, a call is entered,
+/// the topmost one returns this number, what stands in front goes this way, or is done with a number
+/// for a slot, or with a new thread for a thread variable.
 #[derive(Drop)]
-pub(crate) enum Deed<'u> {
-    Waits,
-    Fails,
+pub(crate) enum Act<'u> {
     Gets(i64),
     Calls(Frame<'u>),
     Returns(i64),
     Goes(Way<'u>),
     Stores(u16, i64),
-    Writes(u16, i64),
-    Owns(u16, Option<u32>),
-    Creates(u16, Frame<'u>),
+    Keeps(u16),
+}
+
+/// What a step does beside: nothing, a number for a global, an owner for a mutex, a new thread.
+#[derive(Drop)]
+pub(crate) enum Effect<'u> {
+    Nothing,
+    Global(u16, i64),
+    Owner(u16, Option<u32>),
+    Starts(Frame<'u>),
+}
+
+/// What a step does: nothing yet, a fault, or a move.
+#[derive(Drop)]
+pub(crate) enum Deed<'u> {
+    Waits,
+    Fails,
+    Moves(Act<'u>, Effect<'u>),
 }
 
 /// Where a step is made: the unit, what the threads share, the thread with its input, and its
 /// topmost frame.
+#[derive(Drop)]
 pub(crate) struct Here<'m, 'u> {
     pub unit: &'u Unit,
     pub globals: &'m [i64],
@@ -74,7 +88,7 @@ fn width_of_global(unit: &Unit, g: u16) -> Width
 }
 
 /// The owner of a mutex.
-fn owner_of(owners: &[Option<u32>], m: u16) -> Option<u32>
+pub(crate) fn owner_of(owners: &[Option<u32>], m: u16) -> Option<u32>
     ensures { result ≡ slice_index_or owners.now m None }
 {
     match owners.get(m as usize) {
@@ -94,7 +108,7 @@ fn is_empty_at(threads: &[Vec<Frame<'_>>], place: usize) -> bool
 }
 
 /// Whether there is such a thread and it has ended.
-fn has_ended_in(threads: &[Vec<Frame<'_>>], thread: u32) -> bool
+pub(crate) fn has_ended_in(threads: &[Vec<Frame<'_>>], thread: u32) -> bool
     ensures { result ≡ option_map_or is_over (thread_at (map (λ v. stack_of v.items) threads.now) thread) false }
 {
     if thread == 0 {
@@ -168,7 +182,7 @@ impl<'u> Here<'_, 'u> {
             None => Deed::Fails,
             Some(thread) => {
                 if has_ended_in(self.threads, thread) {
-                    Deed::Goes(Way::Pass)
+                    Deed::Moves(Act::Goes(Way::Pass), Effect::Nothing)
                 } else {
                     Deed::Waits
                 }
@@ -184,7 +198,7 @@ impl<'u> Here<'_, 'u> {
             None => Deed::Fails,
             Some(owner) => {
                 if owner == self.thread {
-                    Deed::Owns(m, None)
+                    Deed::Moves(Act::Goes(Way::Pass), Effect::Owner(m, None))
                 } else {
                     Deed::Fails
                 }
@@ -203,23 +217,41 @@ impl<'u> Here<'_, 'u> {
     {
         let number = only_of(values);
         match &p.stmt {
-            Stmt::Declare(x, None) => Ok(Deed::Stores(*x, self.input)),
-            Stmt::Declare(x, Some(_)) => Ok(Deed::Stores(*x, number)),
-            Stmt::Assign(Target::Local(x), _) => Ok(Deed::Stores(*x, number)),
+            Stmt::Declare(x, None) => Ok(Deed::Moves(Act::Stores(*x, self.input), Effect::Nothing)),
+            Stmt::Declare(x, Some(_)) => Ok(Deed::Moves(Act::Stores(*x, number), Effect::Nothing)),
+            Stmt::Assign(Target::Local(x), _) => Ok(Deed::Moves(
+                Act::Stores(*x, number),
+                Effect::Nothing,
+            )),
             Stmt::Assign(Target::Global(g), _) => {
                 let width = width_of_global(self.unit, *g);
-                Ok(Deed::Writes(*g, converted(width, number as i128)))
+                Ok(Deed::Moves(
+                    Act::Goes(Way::Pass),
+                    Effect::Global(*g, converted(width, number as i128)),
+                ))
             }
-            Stmt::CallOnly(f, _) => Ok(Deed::Calls(Frame::new(alloc, self.unit, *f, values)?)),
-            Stmt::If(_, yes, no) => Ok(Deed::Goes(branch(number, yes.get(), no))),
-            Stmt::While(_, _) => Ok(Deed::Goes(after_loop(number, p))),
-            Stmt::Break => Ok(Deed::Goes(Way::Break)),
-            Stmt::Continue => Ok(Deed::Goes(Way::Continue)),
-            Stmt::Return(e) => Ok(Deed::Returns(self.returned(e, values))),
-            Stmt::Create(var, f) => Ok(Deed::Creates(*var, Frame::new(alloc, self.unit, *f, &[])?)),
+            Stmt::CallOnly(f, _) => Ok(Deed::Moves(
+                Act::Calls(Frame::new(alloc, self.unit, *f, values)?),
+                Effect::Nothing,
+            )),
+            Stmt::If(_, yes, no) => Ok(Deed::Moves(
+                Act::Goes(branch(number, yes.get(), no)),
+                Effect::Nothing,
+            )),
+            Stmt::While(_, _) => Ok(Deed::Moves(Act::Goes(after_loop(number, p)), Effect::Nothing)),
+            Stmt::Break => Ok(Deed::Moves(Act::Goes(Way::Break), Effect::Nothing)),
+            Stmt::Continue => Ok(Deed::Moves(Act::Goes(Way::Continue), Effect::Nothing)),
+            Stmt::Return(e) => Ok(Deed::Moves(
+                Act::Returns(self.returned(e, values)),
+                Effect::Nothing,
+            )),
+            Stmt::Create(var, f) => Ok(Deed::Moves(
+                Act::Keeps(*var),
+                Effect::Starts(Frame::new(alloc, self.unit, *f, &[])?),
+            )),
             Stmt::Join(var) => Ok(self.join(*var)),
             Stmt::Lock(m) => match owner_of(self.owners, *m) {
-                None => Ok(Deed::Owns(*m, Some(self.thread))),
+                None => Ok(Deed::Moves(Act::Goes(Way::Pass), Effect::Owner(*m, Some(self.thread)))),
                 Some(_) => Ok(Deed::Waits),
             },
             Stmt::Unlock(m) => Ok(self.unlock(*m)),
@@ -227,14 +259,14 @@ impl<'u> Here<'_, 'u> {
                 if number == 0 {
                     Ok(Deed::Fails)
                 } else {
-                    Ok(Deed::Goes(Way::Pass))
+                    Ok(Deed::Moves(Act::Goes(Way::Pass), Effect::Nothing))
                 }
             }
             Stmt::DeclareThread(_)
             | Stmt::DoWhile(_, _)
             | Stmt::For(_, _, _, _)
             | Stmt::Block(_)
-            | Stmt::Empty => Ok(Deed::Goes(Way::Pass)),
+            | Stmt::Empty => Ok(Deed::Moves(Act::Goes(Way::Pass), Effect::Nothing)),
         }
     }
 
@@ -244,10 +276,13 @@ impl<'u> Here<'_, 'u> {
     {
         match next {
             Next::Stmt(p) => self.statement(alloc, p, values),
-            Next::Test(l) => Ok(Deed::Goes(after_loop(only_of(values), l))),
+            Next::Test(l) => Ok(Deed::Moves(
+                Act::Goes(after_loop(only_of(values), l)),
+                Effect::Nothing,
+            )),
             Next::Last(l) => match &l.stmt {
                 Stmt::For(_, _, Some(last), _) => self.statement(alloc, last.get(), values),
-                _ => Ok(Deed::Goes(Way::Pass)),
+                _ => Ok(Deed::Moves(Act::Goes(Way::Pass), Effect::Nothing)),
             },
         }
     }
@@ -257,10 +292,19 @@ impl<'u> Here<'_, 'u> {
         ensures { IfOk result (λ d. (todo : Todo) (rest : List Todo) (below : List Tree.Frame) → front_step todo rest (site_of self.now below) (Err demand) ≡ deed_step d (site_of self.now below)) }
     {
         match demand {
-            Demand::Global(g) => Ok(Deed::Gets(number_at(self.globals, g))),
-            Demand::Nondet(width) => Ok(Deed::Gets(converted(width, self.input as i128))),
+            Demand::Global(g) => Ok(Deed::Moves(
+                Act::Gets(number_at(self.globals, g)),
+                Effect::Nothing,
+            )),
+            Demand::Nondet(width) => Ok(Deed::Moves(
+                Act::Gets(converted(width, self.input as i128)),
+                Effect::Nothing,
+            )),
             Demand::Call(f, args) => {
-                Ok(Deed::Calls(Frame::new(alloc, self.unit, f, args.as_slice())?))
+                Ok(Deed::Moves(
+                    Act::Calls(Frame::new(alloc, self.unit, f, args.as_slice())?),
+                    Effect::Nothing,
+                ))
             }
             Demand::Fault => Ok(Deed::Fails),
         }
@@ -272,7 +316,7 @@ impl<'u> Here<'_, 'u> {
         ensures { IfOk result (λ d. (below : List Tree.Frame) → frame_step (shown self.now.frame.now).todo (site_of self.now below) ≡ deed_step d (site_of self.now below)) }
     {
         match next {
-            None => Ok(Deed::Returns(0)),
+            None => Ok(Deed::Moves(Act::Returns(0), Effect::Nothing)),
             Some(front) => match self.frame.demand(alloc, self.unit, next)? {
                 Err(demand) => self.missing(alloc, demand),
                 Ok(values) => self.front(alloc, front, values.as_slice()),

@@ -53,7 +53,7 @@ fn first_numbers(alloc: Global, slots: &[Slot], args: &[i64]) -> Result<Vec<i64>
 }
 
 /// No thread variable has a thread.
-fn no_threads(alloc: Global, names: &[Text]) -> Result<Vec<Option<u32>>, Memory>
+pub(crate) fn no_threads(alloc: Global, names: &[Text]) -> Result<Vec<Option<u32>>, Memory>
     ensures { IfOk result (λ v. v.items ≡ unset_vars names.now) }
 {
     let mut vars = Vec::new(alloc);

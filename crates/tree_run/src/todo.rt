@@ -15,9 +15,10 @@ pub(crate) enum Part<'u> {
     Last(&'u Placed),
 }
 
-/// What comes next in a frame.
+/// A thing that a frame has still to do, by reference: a statement, a loop that has begun and whose
+/// test comes next, or a `for` that has begun and whose last part comes next (C17, 6.8.5).
 #[derive(Clone, Copy)]
-pub(crate) enum Next<'u> {
+pub enum Next<'u> {
     Stmt(&'u Placed),
     Test(&'u Placed),
     Last(&'u Placed),
@@ -51,7 +52,7 @@ pub(crate) fn replace_by_two<'u>(
 }
 
 /// The first statement of a list and the rest, if there is one.
-fn split<'u>(all: &'u [Placed]) -> Option<(&'u Placed, &'u [Placed])>
+pub(crate) fn split<'u>(all: &'u [Placed]) -> Option<(&'u Placed, &'u [Placed])>
     ensures { MatchOption result (all.now ≡ []) (λ r. all.now ≡ r.0.now ∷ r.1.now) }
 {
     all.split_first()
