@@ -5,6 +5,8 @@ pub mod Descent
 pub mod Expressions
 pub mod Fronts
 pub mod HeadExits
+pub mod Kept
+pub mod Levels
 pub mod OneFault
 pub mod Opening
 pub mod Passing
@@ -18,3 +20,4 @@ pub mod Unique
 pub mod UniqueStatement
 pub mod UniqueUnit
 pub mod UnitExits
+pub mod Unsigned

@@ -1,8 +1,8 @@
 //! Expressions, by descent.
 
-ghost use Rattle.std.specs.Prelude.{◌≡◌, ◌≤◌, ◌<◌, IfOk, IfErr};
+ghost use Rattle.std.specs.Prelude.{◌≡◌, ◌≤◌, ◌<◌, false, IfOk, IfErr};
 ghost use Rattle.c_parse.specs.Grammar as grammar;
-ghost use Rattle.c_parse.specs.Grammar.{within, ReadsLevel, ReadsChain, ReadsCall, ReadsArgs};
+ghost use Rattle.c_parse.specs.Grammar.{within, EndsChain, ReadsLevel, ReadsChain, ReadsCall, ReadsArgs};
 ghost use Rattle.c_parse.specs.Machine as machine;
 ghost use Rattle.c_parse.specs.Machine.{Breaks, IsOver, ReadsOnto};
 
@@ -233,9 +233,22 @@ fn more_args(
     Err(Stop::At(Trouble::Bad, 0))
 }
 
-/// A chain of operators of a level, over operands of the level below it.
+/// Whether the tokens begin with an operator of the level.
+fn goes_on(level: u8, tokens: &[Terminal]) -> bool
+    ensures { result ≡ false → EndsChain level tokens.now }
+{
+    let Some((token, _)) = tokens.split_first() else {
+        return false;
+    };
+    match operator(level, &token.kind) {
+        Some(_) => true,
+        None => false,
+    }
+}
+
+/// An operand, and then the chains of the levels below this one, from the tightest on.
 #[cycle(expression)]
-#[tactic(auto, using(crate::proofs::Descent::level_found, crate::proofs::Descent::first_stop, crate::proofs::Descent::chain_stop, crate::proofs::Descent::shorter_level))]
+#[tactic(auto, using(crate::proofs::Levels::operand_stop, crate::proofs::Levels::chain_in_level_stop, crate::proofs::Levels::next_level, crate::proofs::Levels::level_ends, crate::proofs::Descent::shorter_level))]
 pub(crate) fn level(
     alloc: Global,
     level: u8,
@@ -248,11 +261,19 @@ pub(crate) fn level(
     ensures limit { IfOk result (λ read. read.2 ≤ 64) }
     ensures stop { IfErr result (Breaks (machine.Part.level level) (within count) tokens.now) }
 {
-    if level == 0 {
-        return operand(alloc, count, tokens);
+    let (first, after, begun) = operand(alloc, count, tokens)?;
+    let mut left = first;
+    let mut rest = after;
+    let mut operators = begun;
+    for below in 0..level {
+        if goes_on(below, rest) {
+            let (whole, next, used) = chain(alloc, below, left, operators, rest)?;
+            left = whole;
+            rest = next;
+            operators = used;
+        }
     }
-    let (first, rest, count) = self::level(alloc, level - 1, count, tokens)?;
-    chain(alloc, level - 1, first, count, rest)
+    Ok((left, rest, operators))
 }
 
 /// What follows the first operand of a chain.

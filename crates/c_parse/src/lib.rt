@@ -26,6 +26,3 @@ pub use raw::{
 };
 pub use terminal::{Kind, Terminal};
 pub use unit_text::parse;
-
-#[cfg(test)]
-mod tests;

@@ -8,6 +8,7 @@ ghost use Rattle.c_parse.specs.Grammar as grammar;
 ghost use Rattle.c_parse.specs.Grammar.{within, ReadsLiteral, ReadsMutexName, IsUnit};
 ghost use Rattle.c_parse.specs.Machine as machine;
 ghost use Rattle.c_parse.specs.Machine.{Breaks, BreaksUnit};
+ghost use Rattle.c_parse.specs.Unsigned.{AreUnsigned};
 
 use crate::declaration::type_of;
 use crate::head::{head_of, params, voided};
@@ -33,10 +34,10 @@ fn number(tokens: &[Terminal]) -> Result<(i64, Place, &[Terminal]), Stop>
     }
 }
 
-/// `[ "-" ] number`, with the place of the number. No text has a number whose negative is too
-/// great.
-#[tactic(auto, using(crate::proofs::UnitExits::negative_found, crate::proofs::UnitExits::negative_stop))]
+/// `[ "-" ] number`, with the place of the number.
+#[tactic(auto, using(crate::proofs::UnitExits::negative_found, crate::proofs::UnitExits::negative_stop, crate::proofs::Kept::unsigned_rest, crate::proofs::Kept::unsigned_number))]
 fn literal(tokens: &[Terminal]) -> Result<(i64, Place, &[Terminal]), Stop>
+    requires { AreUnsigned tokens.now }
     ensures found { IfOk result (λ read. ReadsLiteral tokens.now read.0 read.1 read.2.now) }
     ensures stop { IfErr result (Breaks machine.Part.literal (within 0) tokens.now) }
 {
@@ -46,10 +47,7 @@ fn literal(tokens: &[Terminal]) -> Result<(i64, Place, &[Terminal]), Stop>
     match &token.kind {
         Kind::Minus => {
             let (value, place, rest) = number(rest)?;
-            let Some(negative) = value.checked_neg() else {
-                return Err(Stop::Memory);
-            };
-            Ok((negative, place, rest))
+            Ok((-value, place, rest))
         }
         _ => number(tokens),
     }
@@ -76,9 +74,11 @@ fn unset(width: Width, name: RawName) -> RawItem
 }
 
 /// `[ "=" [ "-" ] number ]`, the global of this name.
-#[tactic(auto, using(crate::proofs::UnitExits::given_found, crate::proofs::UnitExits::unset_found, crate::proofs::UnitExits::unset_at_end, crate::proofs::UnitExits::given_stop))]
+#[tactic(auto, using(crate::proofs::UnitExits::given_found, crate::proofs::UnitExits::unset_found, crate::proofs::UnitExits::unset_at_end, crate::proofs::UnitExits::given_stop, crate::proofs::Kept::unsigned_rest, crate::proofs::Kept::kept_literal))]
 fn global(width: Width, name: RawName, tokens: &[Terminal]) -> Result<(RawItem, &[Terminal]), Stop>
+    requires { AreUnsigned tokens.now }
     ensures found { IfOk result (λ read. ReadsGlobal width name tokens.now read.0 read.1.now) }
+    ensures unsigned { IfOk result (λ read. AreUnsigned read.1.now) }
     ensures stop { IfErr result (Breaks machine.Part.globals (within 0) tokens.now) }
 {
     let Some((token, rest)) = tokens.split_first() else {
@@ -94,13 +94,14 @@ fn global(width: Width, name: RawName, tokens: &[Terminal]) -> Result<(RawItem, 
 }
 
 /// `{ "," name [ "=" [ "-" ] number ] } ";"`
-#[tactic(auto, using(crate::proofs::Descent::runs_from, crate::proofs::UnitExits::globals_closed, crate::proofs::UnitExits::next_name_stop, crate::proofs::UnitExits::next_global_stop, crate::proofs::UnitExits::more_globals_mark, crate::proofs::UnitExits::more_globals_end, crate::proofs::UnitExits::shorter_global))]
+#[tactic(auto, using(crate::proofs::Descent::runs_from, crate::proofs::UnitExits::globals_closed, crate::proofs::UnitExits::next_name_stop, crate::proofs::UnitExits::next_global_stop, crate::proofs::UnitExits::more_globals_mark, crate::proofs::UnitExits::more_globals_end, crate::proofs::UnitExits::shorter_global, crate::proofs::Kept::unsigned_rest, crate::proofs::Kept::kept_name))]
 fn more_globals(
     alloc: Global,
     front: Seq<RawItem>,
     width: Width,
     tokens: &[Terminal],
 ) -> Result<(Seq<RawItem>, &[Terminal]), Stop>
+    requires { AreUnsigned tokens.now }
     ensures found { IfOk result (λ read. MoreGlobalsOnto width front tokens.now read.0 read.1.now) }
     ensures stop { IfErr result (Breaks machine.Part.more_globals (within 0) tokens.now) }
 {
@@ -130,6 +131,7 @@ fn globals(
     name: RawName,
     tokens: &[Terminal],
 ) -> Result<(Seq<RawItem>, &[Terminal]), Stop>
+    requires { AreUnsigned tokens.now }
     ensures found { IfOk result (λ read. GlobalsOnto width name front tokens.now read.0 read.1.now) }
     ensures stop { IfErr result (Breaks machine.Part.globals (within 0) tokens.now) }
 {
@@ -149,6 +151,7 @@ fn named(
     name: RawName,
     tokens: &[Terminal],
 ) -> Result<(Seq<RawItem>, &[Terminal]), Stop>
+    requires { AreUnsigned tokens.now }
     ensures found { IfOk result (λ read. NamedOnto may width name front tokens.now read.0 read.1.now) }
     ensures stop { IfErr result (Breaks (machine.Part.named may) (within 0) tokens.now) }
 {
@@ -173,7 +176,7 @@ fn named(
 }
 
 /// What follows a type: a name, and what follows both.
-#[tactic(auto, using(crate::proofs::UnitExits::typed_found, crate::proofs::UnitExits::typed_0_stop, crate::proofs::UnitExits::typed_1_stop))]
+#[tactic(auto, using(crate::proofs::UnitExits::typed_found, crate::proofs::UnitExits::typed_0_stop, crate::proofs::UnitExits::typed_1_stop, crate::proofs::Kept::kept_name))]
 fn typed(
     alloc: Global,
     front: Seq<RawItem>,
@@ -181,6 +184,7 @@ fn typed(
     width: Width,
     tokens: &[Terminal],
 ) -> Result<(Seq<RawItem>, &[Terminal]), Stop>
+    requires { AreUnsigned tokens.now }
     ensures found { IfOk result (λ read. TypedOnto may width front tokens.now read.0 read.1.now) }
     ensures stop { IfErr result (Breaks (machine.Part.typed may) (within 0) tokens.now) }
 {
@@ -202,13 +206,14 @@ fn mutex_name(alloc: Global, tokens: &[Terminal]) -> Result<(RawItem, &[Terminal
 }
 
 /// What follows `static` or `extern`; behind `extern` stands a prototype.
-#[tactic(auto, using(crate::proofs::UnitExits::void_item_found, crate::proofs::UnitExits::void_item_stop, crate::proofs::UnitExits::mutex_item_found, crate::proofs::UnitExits::mutex_item_stop, crate::proofs::UnitExits::no_mutex_stop, crate::proofs::Descent::wanted))]
+#[tactic(auto, using(crate::proofs::Kept::kept_type, crate::proofs::UnitExits::void_item_found, crate::proofs::UnitExits::void_item_stop, crate::proofs::UnitExits::mutex_item_found, crate::proofs::UnitExits::mutex_item_stop, crate::proofs::UnitExits::no_mutex_stop, crate::proofs::Descent::wanted))]
 fn outer(
     alloc: Global,
     front: Seq<RawItem>,
     may: bool,
     tokens: &[Terminal],
 ) -> Result<(Seq<RawItem>, &[Terminal]), Stop>
+    requires { AreUnsigned tokens.now }
     ensures found { IfOk result (λ read. OuterOnto may front tokens.now read.0 read.1.now) }
     ensures stop { IfErr result (Breaks (machine.Part.outer may) (within 0) tokens.now) }
 {
@@ -238,12 +243,13 @@ fn outer(
 }
 
 /// `[ "static" | "extern" ] item`
-#[tactic(auto, using(crate::proofs::UnitExits::static_found, crate::proofs::UnitExits::static_stop, crate::proofs::UnitExits::extern_found, crate::proofs::UnitExits::extern_stop))]
+#[tactic(auto, using(crate::proofs::UnitExits::static_found, crate::proofs::UnitExits::static_stop, crate::proofs::UnitExits::extern_found, crate::proofs::UnitExits::extern_stop, crate::proofs::Kept::unsigned_rest))]
 fn item(
     alloc: Global,
     front: Seq<RawItem>,
     tokens: &[Terminal],
 ) -> Result<(Seq<RawItem>, &[Terminal]), Stop>
+    requires { AreUnsigned tokens.now }
     ensures found { IfOk result (λ read. ItemOnto front tokens.now read.0 read.1.now) }
     ensures stop { IfErr result (Breaks machine.Part.unit_item (within 0) tokens.now) }
 {
@@ -258,8 +264,9 @@ fn item(
 }
 
 /// `{ item }`, all of the tokens.
-#[tactic(auto, using(crate::proofs::UnitExits::unit_runs_from, crate::proofs::UnitExits::unit_begun))]
+#[tactic(auto, using(crate::proofs::UnitExits::unit_runs_from, crate::proofs::UnitExits::unit_begun, crate::proofs::Kept::kept_item))]
 pub(crate) fn unit(alloc: Global, tokens: &[Terminal]) -> Result<Seq<RawItem>, Stop>
+    requires { AreUnsigned tokens.now }
     ensures found { IfOk result (λ items. IsUnit tokens.now items) }
     ensures stop { IfErr result (BreaksUnit tokens.now) }
 {

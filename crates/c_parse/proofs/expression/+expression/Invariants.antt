@@ -1,8 +1,8 @@
-use Rattle.std.proofs.Common.{◌≤◌, ◌+◌, ◌*◌, List, length}
+use Rattle.std.proofs.Common.{◌≤◌, ◌<◌, ◌+◌, ◌*◌, List, length}
 use Rattle.c_parse.specs.declared.terminal.Terminal.{Terminal}
 use Rattle.c_parse.specs.declared.raw.expr.RawExpr.{RawExpr}
 use Rattle.c_parse.specs.Machine as machine
-use Rattle.c_parse.specs.Grammar.{Nesting, within, ReadsChain}
+use Rattle.c_parse.specs.Grammar.{Nesting, within, ReadsLevel, ReadsChain}
 use Rattle.c_parse.proofs.Descent.{GoesOn, RunsOn}
 use Rattle.c_parse.proofs.expression.+expression.Given as goal
 
@@ -11,6 +11,13 @@ decreases-chain l = 16 * length l.tokens.now
 
 abbrev pub decreases-level : goal.decreases-level
 decreases-level l = 16 * length l.tokens.now + 1 + l.level
+
+abbrev pub invariant-level-loop-below : goal.invariant-level-loop-below
+invariant-level-loop-below l = record {
+  reads : ReadsLevel l.below (within l.fn.count) l.fn.tokens l.left l.rest (within l.operators);
+  short : length l.rest < length l.fn.tokens;
+  few : l.operators ≤ 64;
+}
 
 abbrev pub decreases-operand : goal.decreases-operand
 decreases-operand l = 16 * length l.tokens.now

@@ -13,4 +13,8 @@ returns-in_ok-initial-in-Equals-clause-found c =
     (c.global_of.ensures ∙ ap (λ (v : ℤ). global c.args.name c.args.width v c.in_ok-initial-in-Equals.literal) (to_z-of_z w64 c.in_ok-initial-in-Equals.initial fits))
 
 pub returns-in_default-kind : goal.returns-in_default-kind
-returns-in_default-kind c = record { found = unset_found c.in-Some.ensures.cases.0 c.in_default-kind.not-Equals c.unset-in_default-kind.ensures; stop = tt }
+returns-in_default-kind c = record {
+  found = unset_found c.in-Some.ensures.cases.0 c.in_default-kind.not-Equals c.unset-in_default-kind.ensures;
+  unsigned = c.requires;
+  stop = tt;
+}

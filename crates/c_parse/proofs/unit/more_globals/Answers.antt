@@ -13,4 +13,5 @@ loop-token-preserved c =
     record {
       reads = globals_again c.args.front c.loop-token.list c.push.new.self c.loop-token.invariant.reads c.in_ok-push-in-Comma.ensures.ok first c.in-Comma.is name one;
       runs = runs_then c.loop-token.invariant.runs (globals_run first c.in-Comma.is name one);
+      unsigned = c.in_ok-one-in-Comma.ensures.unsigned;
     }

@@ -1,5 +1,6 @@
 use Rattle.std.proofs.Common.{◌∙◌, arith}
 use Rattle.std.proofs.lemmas.Result.{err_from_is_err_and}
+use Rattle.c_parse.proofs.Kept.{kept_item}
 use Rattle.c_parse.proofs.Shorter.{shorter_item}
 use Rattle.c_parse.proofs.UnitExits.{unit_again, unit_run, unit_stop, unit_found}
 use Rattle.c_parse.proofs.unit.unit.Goals as goal
@@ -16,6 +17,7 @@ pub loop-rest-preserved : goal.loop-rest-preserved
 loop-rest-preserved c = record {
   reads = unit_again c.loop-rest.invariant.reads c.in_ok-now.ensures.found;
   runs = unit_run c.loop-rest.invariant.runs (grind (arith, c.loop-rest-test.true, c.is_empty.ensures)) c.in_ok-now.ensures.found;
+  unsigned = kept_item c.in_ok-now.ensures.found.reads c.loop-rest.invariant.unsigned;
 }
 
 pub returns-clause-found : goal.returns-clause-found
