@@ -1,0 +1,4 @@
+pub mod Ahead
+pub mod Forms
+pub mod Making
+pub mod Plain

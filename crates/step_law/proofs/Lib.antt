@@ -1,0 +1,6 @@
+pub mod Arriving
+pub mod Frames
+pub mod Keeping
+pub mod Steps
+pub mod Threads
+pub mod Values
