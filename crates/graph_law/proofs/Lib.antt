@@ -6,6 +6,7 @@ pub mod FineHoists
 pub mod FineStmts
 pub mod Fitting
 pub mod Forming
+pub mod FormingExampleProofs
 pub mod Guards
 pub mod Hoists
 pub mod Laying

@@ -1,6 +1,7 @@
 pub mod Entering
 pub mod Fitting
 pub mod Forming
+pub mod FormingExamples
 pub mod Laying
 pub mod Leaving
 pub mod Lying
