@@ -1,5 +1,5 @@
 -- Runs that go on by turns, one after another.
-use Rattle.std.proofs.Common.{List, [], ◌∷◌, ◌++◌, refl, sym, ap, ◌∙◌, subst, append_assoc}
+use Rattle.std.proofs.Common.{◌≡◌, List, [], ◌∷◌, ◌++◌, None, slice_get, refl, sym, ap, ◌∙◌, subst, append_assoc}
 use Rattle.std.proofs.lemmas.List.{append-nil}
 use Rattle.c_source.specs.declared.source.Source.{Source}
 use Rattle.gob_tree.specs.declared.graph.Program.{Program}
@@ -30,3 +30,7 @@ Replays-on start old new more before after =
     subst (λ (s : Source). Replays s.program start new.trace new.solving) (sym after.job.source)
     (subst (λ (l : List Unknown). Replays (program_of old) start l new.solving) (sym after.trace)
     (Replays-append (program_of old) start old.solving new.solving old.trace more before after.replayed))
+
+pub empty_without_first : (us : List Unknown) → slice_get us 0 ≡ None → us ≡ []
+empty_without_first [] none = refl
+empty_without_first (u ∷ us) none = absurd (cc none)

@@ -5,6 +5,8 @@
 mod budget;
 mod job;
 mod law;
+mod noted;
+mod order;
 mod run;
 
 pub use budget::solve;

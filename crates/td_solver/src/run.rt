@@ -1,13 +1,18 @@
-ghost use Rattle.std.specs.Prelude.{◌≡◌, ◌≢◌, [], IfOk, IfErr, OnOk, OnErr, Contains};
+ghost use Rattle.std.specs.Prelude.{◌≡◌, ◌≢◌, [], IfOk, IfErr, IfSome, None, OnOk, OnErr, Contains};
 ghost use Rattle.std.specs.Arc.{arc_value};
 ghost use Rattle.gob_tree.specs.Formed.{IsFormed};
+ghost use Rattle.constraint_sys.specs.Index.{IsSystemOf};
 ghost use Rattle.constraint_sys.specs.Sound.{IsShaped, IsTurnable};
 ghost use Rattle.td_solver.specs.Ending.{begun, program_of_job, start_of_job};
+ghost use Rattle.td_solver.specs.Noting.{IsNoted};
 ghost use Rattle.td_solver.specs.Running.{GoesOnBy, GoesOnExactly, GoesOnWithin, program_of};
 
 use crate::job::{Job, Progress, Solved};
+use crate::noted::{note_clean, turn_noted};
+use crate::order::Order;
 use c_source::Source;
-use constraint_sys::{Dirty, System, Table, Unknown, turn};
+use constraint_sys::{Dirty, System, Table, Unknown};
+use dep_index::DepIndex;
 use gob_tree::{Memory, Seq};
 use std::alloc::Global;
 use std::marker::Model;
@@ -22,6 +27,8 @@ pub struct Run {
     system: System,
     table: Table,
     dirty: Dirty,
+    index: DepIndex,
+    order: Order,
     trace: Vec<Unknown>,
 }
 
@@ -40,11 +47,13 @@ impl Model for Run {
     ghost use Rattle.gob_tree.specs.Formed.{IsFormed};
     ghost use Rattle.constraint_sys.specs.Index.{IsSystemOf};
     ghost use Rattle.constraint_sys.specs.Sound.{IsTurnable};
+    ghost use Rattle.td_solver.specs.Noting.{IsNoted};
 
     ghost view = { λ r. record { number = r.number; source = arc_value r.source; solving = record { table = r.table; dirty = r.dirty }; trace = r.trace.items } };
 
     ghost invariant = { λ r. IsFormed (arc_value r.source).program × IsSystemOf (arc_value r.source).program r.system
-        × IsTurnable (arc_value r.source).program (record { table = r.table; dirty = r.dirty }) };
+        × IsTurnable (arc_value r.source).program (record { table = r.table; dirty = r.dirty })
+        × IsNoted (arc_value r.source).program (record { table = r.table; dirty = r.dirty }) r.index };
 }
 
 impl Run {
@@ -55,13 +64,15 @@ impl Run {
         ensures ok { IfOk result (λ run. run ≡ begun job) }
         ensures err { IfErr result (λ back. back ≡ job) }
     {
-        match System::of(alloc, job.source.program()) {
-            Ok(system) => Ok(Run {
+        match prepared(alloc, &job) {
+            Ok(ready) => Ok(Run {
                 number: job.number,
                 source: job.source,
-                system,
+                system: ready.system,
                 table: job.table,
                 dirty: job.dirty,
+                index: ready.index,
+                order: ready.order,
                 trace: Vec::new(alloc),
             }),
             Err(_) => Err(job),
@@ -70,7 +81,8 @@ impl Run {
 
     /// The source.
     pub fn source(&self) -> &Source
-        ensures { result.now ≡ self.now.source }
+        ensures value { result.now ≡ self.now.source }
+        ensures formed { IsFormed (program_of self.now) }
     {
         &self.source
     }
@@ -113,13 +125,15 @@ impl Run {
         ensures err { OnErr result (self.new ≡ self.old) }
     {
         self.trace.reserve(1)?;
-        turn(
+        turn_noted(
             alloc,
             self.source.program(),
             &self.system,
             &mut self.table,
             &mut self.dirty,
-            *u,
+            &mut self.index,
+            &mut self.order,
+            u,
         )?;
         match self.trace.push(*u) {
             Ok(()) => Ok(()),
@@ -137,15 +151,27 @@ impl Run {
         ensures whole { result ≡ Progress.Dirty → GoesOnExactly k self.old self.new }
     {
         for _i in 0..k {
-            let Some(u) = self.dirty().first() else {
+            let Some(u) = self.next() else {
                 return Progress::Clean;
             };
             match self.make_turn(alloc, &u) {
                 Ok(()) => {}
-                Err(_) => return Progress::Memory,
+                Err(_) => {
+                    self.order.push(&u);
+                    return Progress::Memory;
+                }
             }
         }
         self.standing()
+    }
+
+    /// The dirty point whose turn it is; `None` exactly where nothing is dirty.
+    fn next(&mut self) -> Option<Unknown>
+        ensures same { self.new ≡ self.old }
+        ensures dirty { IfSome result (λ u. Contains self.old.solving.dirty u) }
+        ensures none { result ≡ None → self.old.solving.dirty ≡ [] }
+    {
+        self.order.next(&self.dirty)
     }
 
     /// Whether something is dirty.
@@ -188,4 +214,31 @@ impl Run {
     {
         Seq::from_vec(self.trace)
     }
+}
+
+/// What a run of a job looks up: the program's system, the reads of the clean points, and the order of
+/// the dirty ones.
+#[derive(Drop)]
+struct Ready {
+    system: System,
+    index: DepIndex,
+    order: Order,
+}
+
+fn prepared(alloc: Global, job: &Job) -> Result<Ready, Memory>
+    requires formed { IsFormed (program_of_job job.now) }
+    requires turnable { IsTurnable (program_of_job job.now) (start_of_job job.now) }
+    ensures system { IfOk result (λ ready. IsSystemOf (program_of_job job.now) ready.system) }
+    ensures noted { IfOk result (λ ready. IsNoted (program_of_job job.now) (start_of_job job.now) ready.index) }
+{
+    let program = job.source.program();
+    let system = System::of(alloc, program)?;
+    let index = note_clean(alloc, program, &system, &job.table, &job.dirty)?;
+    let mut order = Order::of(alloc, program, &system)?;
+    order.push_dirty(&job.table, &job.dirty, 0);
+    Ok(Ready {
+        system,
+        index,
+        order,
+    })
 }
