@@ -1,22 +1,26 @@
 -- From graphs to trees.
-use Rattle.std.proofs.Common.{◌≡◌, refl, sym, subst, ℕ, zero, suc, ℤ, pos, List, [], ◌∷◌, length, take, Option, Some, IsSomeAnd}
+use Rattle.std.proofs.Common.{◌≡◌, refl, sym, subst, ℕ, zero, suc, ◌<◌, ℤ, pos, List, [], ◌∷◌, length, take, Option, Some, IsSomeAnd}
 use Rattle.std.specs.Prelude.{slice_get, slice_index_or}
 use Rattle.std.proofs.lemmas.Option.{none-some, same_Some}
 use Rattle.gob_tree.specs.Formed.{IsFormed}
+use Rattle.gob_tree.specs.WellMade.{IsWellMade}
 use Rattle.gob_tree.specs.declared.graph.Program.{Program}
 use Rattle.gob_tree.specs.declared.unit.Slot.{Slot}
 use Rattle.gob_tree.specs.declared.unit.Unit.{Unit as TranslationUnit}
 use Rattle.interval_dom.specs.Bounds.{Bounds, Describes}
 use Rattle.c_meaning.specs.declared.config.Choice.{Choice}
-use Rattle.c_meaning.specs.Config.{Config, thread_at}
+use Rattle.c_meaning.specs.Config.{Config, global_at, thread_at}
 use Rattle.c_meaning.specs.Graph.{marked_of, program_of}
 use Rattle.c_meaning.specs.GraphStep as Graph
 use Rattle.c_meaning.specs.Tree as Tree
-use Rattle.c_meaning.specs.Walk.{IsGraphRun, StandsBelow, StandsFrame, StandsThread, StandThreads, Walked}
+use Rattle.c_meaning.specs.Walk.{IsGraphRun, Stands, StandsBelow, StandsFrame, StandsThread, StandThreads, Walked, graph_run}
+use Rattle.graph_law.specs.Forming.{IsWithinSizes}
 use Rattle.graph_law.proofs.Forming.{programs_are_formed}
 use Rattle.graph_law.proofs.Running.{run_leads}
 use Rattle.state_dom.specs.StateValue.{StateValue, Bottom, Reached, DescribesEach, slots_of}
 use Rattle.constraint_sys.specs.declared.unknown.Key.{Key}
+use Rattle.constraint_sys.specs.PostSolution.{IsPostSolution}
+use Rattle.constraint_sys.specs.Sound.{IsShaped}
 use Rattle.constraint_sys.specs.Table.{TableValue, slots_at, state_at}
 use Rattle.constraint_sys.specs.Transfer.{number_at}
 use Rattle.action_law.specs.Described.{DescribesSlots}
@@ -24,8 +28,9 @@ use Rattle.run_law.specs.Known.{KnowsCallers, KnowsThread}
 use Rattle.run_law.proofs.Bounding.{slots_described}
 use Rattle.run_law.proofs.Runs.{runs_are_known}
 use Rattle.walk_law.proofs.Walking.{walks_are_offered}
-use Rattle.tree_law.specs.Laws.{GlobalsAreShown, IsStoodFor, ThreadsAreShown}
-use Rattle.tree_law.specs.Shown.{DescribesFirst, ShowsFrame}
+use Rattle.along_law.proofs.Runs.{runs_stay_together}
+use Rattle.tree_law.specs.Laws.{TreesAreShown}
+use Rattle.tree_law.specs.Shown.{DescribesFirst, ShowsFrame, ShowsThread}
 
 -- ---- named slots
 
@@ -117,6 +122,15 @@ module _ (unit : TranslationUnit) (t : TableValue) where
 
 -- ---- the law
 
+-- a moment of a run for which graphs stand
+pub record IsStoodFor (unit : TranslationUnit) (t : TableValue) (choices : List Choice) (c : Config Tree.Frame) (w : Walked) : Type 0 where
+  pub made : IsWellMade unit
+  pub sizes : IsWithinSizes unit
+  pub shaped : IsShaped (program_of unit) t
+  pub post : IsPostSolution (program_of unit) t
+  pub walk : graph_run (marked_of unit) choices ≡ Some w
+  pub stands : Stands unit c w.config
+
 module _ (unit : TranslationUnit) (t : TableValue) (choices : List Choice) (c : Config Tree.Frame) (w : Walked) (m : IsStoodFor unit t choices c w) where
   formed : IsFormed (program_of unit)
   formed = programs_are_formed unit m.made m.sizes
@@ -124,12 +138,14 @@ module _ (unit : TranslationUnit) (t : TableValue) (choices : List Choice) (c : 
   leads : IsGraphRun (program_of unit) w.moves w.config
   leads = run_leads (marked_of unit) choices w m.walk
 
-pub globals_are_shown : GlobalsAreShown
+globals_are_shown : (unit : TranslationUnit) (t : TableValue) (choices : List Choice) (c : Config Tree.Frame) (w : Walked) (g : ℕ) → IsStoodFor unit t choices c w → g < length unit.globals
+    → IsSomeAnd (number_at t g) (λ (v : Bounds). Describes v (global_at c g))
 globals_are_shown unit t choices c w g m within =
     let known = runs_are_known (program_of unit) t w.moves w.config (formed unit t choices c w m) m.shaped m.post (leads unit t choices c w m) in
     subst (λ (values : List ℤ). IsSomeAnd (number_at t g) (λ (v : Bounds). Describes v (slice_index_or values g (pos 0)))) (sym m.stands.globals) (known.globals g within)
 
-pub threads_are_shown : ThreadsAreShown
+threads_are_shown : (unit : TranslationUnit) (t : TableValue) (choices : List Choice) (c : Config Tree.Frame) (w : Walked) (thread : ℕ) (frames : List Tree.Frame) → IsStoodFor unit t choices c w → thread_at c.threads thread ≡ Some frames
+    → ShowsThread unit t c w thread frames
 threads_are_shown unit t choices c w thread frames m at =
     let p = program_of unit in
     let found = thread_matched unit t c.threads w.config.threads thread frames m.stands.threads at in
@@ -142,4 +158,17 @@ threads_are_shown unit t choices c w thread frames m at =
       walk = walk.2;
       known = subst (λ (owners : List (Option ℕ)). KnowsThread p t owners thread found.0 walk.0) (sym m.stands.owners) walk.1;
       shown = λ j frame there. thread_shown unit t w.config.owners thread frames found.0 walk.0 j frame found.2 walk.1 there;
+    }
+
+pub trees_are_shown : TreesAreShown
+trees_are_shown unit t choices c made sizes shaped post run =
+    let r = runs_stay_together unit choices c made run in
+    let m : IsStoodFor unit t choices c r.walked = record { made = made; sizes = sizes; shaped = shaped; post = post; walk = r.walk; stands = r.stands } in
+    record {
+      walked = r.walked;
+      moves = r.moves;
+      walks = r.labels;
+      stands = r.stands;
+      globals = λ g below. globals_are_shown unit t choices c r.walked g m below;
+      threads = λ thread frames at. threads_are_shown unit t choices c r.walked thread frames m at;
     }

@@ -1,4 +1,4 @@
-//! What a table shows is true of the runs of trees for which graphs stand. The function is its
+//! What a table shows is true of every run of the trees of a unit. The function is its
 //! contract alone and does nothing.
 #![tactic(auto)]
 
