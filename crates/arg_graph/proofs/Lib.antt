@@ -5,3 +5,6 @@ pub mod NodeRows
 pub mod Standing
 pub mod Targets
 pub mod VertexLemmas
+pub mod InOrder
+pub mod Tops
+pub mod Offering

@@ -1,7 +1,7 @@
 -- Stacks of frames, and how a label moves one.
 --
 -- A reader should check: which frame a label changes, and what Leave asks for.
-use Rattle.std.specs.Prelude.{ℕ, nat_eq, List, [], ◌∷◌, Option, None, Some, if◌then◌else◌, option_and_then}
+use Rattle.std.specs.Prelude.{ℕ, nat_eq, List, [], ◌∷◌, ◌++◌, Option, None, Some, if◌then◌else◌, option_and_then}
 use Rattle.std.specs.Option.{option_map}
 use Rattle.arg_graph.specs.declared.stack.Frame.{Frame}
 use Rattle.arg_graph.specs.declared.vertex.Label.{Label}
@@ -66,6 +66,13 @@ left offers (x ∷ []) = None
 left offers (x ∷ y ∷ []) = if nat_eq y.vertex.node 1 then option_map rooted (goes_on offers x.vertex x.call) else None
 left offers (x ∷ y ∷ z ∷ rest) = option_map (λ (new : StackValue). x ∷ new) (left offers (y ∷ z ∷ rest))
 
+-- The last frame is dropped and its caller goes on, wherever the frame stands.
+abbrev pub returned : Offers → StackValue → Option StackValue
+returned offers [] = None
+returned offers (x ∷ []) = None
+returned offers (x ∷ y ∷ []) = option_map rooted (goes_on offers x.vertex x.call)
+returned offers (x ∷ y ∷ z ∷ rest) = option_map (λ (new : StackValue). x ∷ new) (returned offers (y ∷ z ∷ rest))
+
 -- ---- following labels
 
 -- The stack after a step with the label; none where the label isn't offered. Do and Over move the
@@ -85,3 +92,19 @@ moved_by_all offers (label ∷ more) stack = option_and_then (λ next. moved_by_
 -- the stack to which labels lead from one frame
 abbrev pub followed : Offers → Vertex → List Label → Option StackValue
 followed offers root labels_taken = moved_by_all offers labels_taken (rooted root)
+
+-- ---- a stack whose last frame is given apart
+
+-- the frames after a step with the label from the last one's vertex
+abbrev pub stepped_frames : Label → StackValue → Vertex → Vertex → StackValue
+stepped_frames (Do n) below from to = below ++ rooted to
+stepped_frames (Over n) below from to = below ++ rooted to
+stepped_frames (Enter n) below from to = below ++ waiting_frame from n ∷ rooted to
+stepped_frames (Thread n) below from to = rooted to
+stepped_frames Leave below from to = below ++ rooted to
+
+-- callers, of which the last goes on behind its call
+abbrev pub gone_on : Offers → StackValue → Option StackValue
+gone_on offers [] = None
+gone_on offers (x ∷ []) = option_map rooted (goes_on offers x.vertex x.call)
+gone_on offers (x ∷ y ∷ rest) = option_map (λ (new : StackValue). x ∷ new) (gone_on offers (y ∷ rest))

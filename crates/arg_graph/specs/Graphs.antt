@@ -1,18 +1,25 @@
 -- What a graph shows, and when it is the graph of a table.
 use Rattle.std.specs.Prelude.{◌≡◌, ◌<◌, ℕ, Bool, List, [], Option, None, Some, IsSomeAnd, length, slice_get}
 use Rattle.std.specs.Global.{Vec}
+use Rattle.std.specs.List.Sorted.{IsStrictlySortedBy}
 use Rattle.std.specs.Map.{lookup}
+use Rattle.std.specs.declared.cmp.Ordering.{Ordering}
 use Rattle.gob_tree.specs.declared.graph.Program.{Program}
 use Rattle.constraint_sys.specs.Table.{TableValue}
 use Rattle.arg_graph.specs.declared.graph.Graph.{Graph}
 use Rattle.arg_graph.specs.declared.vertex.Step.{Step}
 use Rattle.arg_graph.specs.declared.vertex.Vertex.{Vertex}
+use Rattle.arg_graph.specs.contracts.vertex.VertexOrd.TheImpl.{ghosts as orders}
 use Rattle.arg_graph.specs.contracts.vertex.VertexPartialEq.TheImpl.{ghosts as vertices}
 use Rattle.arg_graph.specs.Offered.{offered}
 use Rattle.arg_graph.specs.Vertices.{vertices_at, vertices_of}
 
 abbrev pub vertex_eq : Vertex → Vertex → Bool
 vertex_eq = vertices.eq
+
+-- the order of unknowns: by function, then key, then node
+abbrev pub vertex_cmp : Vertex → Vertex → Ordering
+vertex_cmp = orders.cmp
 
 -- ---- what its parts show
 
@@ -56,9 +63,10 @@ offered_in g v = steps_or_none (steps_in g.steps.entries v)
 abbrev pub nodes_in : Graph → ℕ → ℕ → List Vertex
 nodes_in g f node = row_of g.nodes.items f node
 
--- The graph shows the vertices of the table, all and at each node, and the steps that are offered at
--- each; what is no vertex offers none.
+-- The graph shows the vertices of the table, each once and in their order, all and at each node, and
+-- the steps that are offered at each; what is no vertex offers none.
 pub record IsGraphOf (p : Program) (t : TableValue) (g : Graph) : Type 0 where
   pub vertices : vertices_in g ≡ vertices_of t
+  pub in_order : IsStrictlySortedBy vertex_cmp (vertices_in g)
   pub at_node : (f node : ℕ) → nodes_in g f node ≡ vertices_at t f node
   pub steps : (v : Vertex) → offered_in g v ≡ offered p t v

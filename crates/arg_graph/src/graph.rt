@@ -36,6 +36,8 @@ impl Graph {
     {
         let system = System::of(alloc, program)?;
         let order = table.sorted(alloc)?;
+        // no unknown stands twice in a table: `len` says so
+        let _unknowns = table.len();
         let vertices = vertices(alloc, table, order.as_slice())?;
         let steps = steps(alloc, program, &system, table, vertices.as_slice())?;
         let nodes = by_node(alloc, program, vertices.as_slice())?;

@@ -5,6 +5,7 @@
 mod expressions;
 mod graph;
 mod labels;
+mod moving;
 mod offered;
 mod pieces;
 mod stack;
@@ -13,5 +14,6 @@ mod vertex;
 pub use expressions::slot_names;
 pub use graph::{Graph, target};
 pub use labels::label_text;
+pub use moving::{moved, returned};
 pub use stack::{Frame, Stack};
 pub use vertex::{Label, Step, Vertex};
