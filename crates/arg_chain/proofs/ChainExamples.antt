@@ -3,13 +3,13 @@ use Rattle.std.proofs.Common.{◌≡◌, ◌<◌, ℕ, List, [], ◌∷◌, cond
 use Rattle.std.specs.Ordering.{nat_cmp}
 use Rattle.constraint_sys.specs.Table.{empty_key}
 use Rattle.arg_graph.specs.Following.{Offers, StackValue, top_frame, waiting_frame}
-use Rattle.arg_graph.specs.Graphs.{vertex_eq}
+use Rattle.arg_graph.specs.Graphs.{vertex_cmp, vertex_eq}
 use Rattle.arg_graph.specs.Vertices.{start_in, vertex_at}
 use Rattle.arg_graph.specs.declared.stack.Frame.{Frame}
 use Rattle.arg_graph.specs.declared.vertex.Label.TheVariants.{Do, Enter}
 use Rattle.arg_graph.specs.declared.vertex.Step.{Step}
 use Rattle.arg_graph.specs.declared.vertex.Vertex.{Vertex}
-use Rattle.arg_chain.specs.Chains.{CallsTo, IsUpTo, edges_on, vertex_cmp, vertices_on}
+use Rattle.arg_chain.specs.Chains.{CallsTo, IsUpTo, edges_on, vertices_on}
 
 -- `main` is function 0, and calls function 1 by edge 4 at its node 2
 abbrev in_main : Vertex

@@ -3,3 +3,10 @@ pub mod Spreading
 pub mod Turning
 pub mod Choosing
 pub mod ChainExamples
+pub mod Between
+pub mod Numbering
+pub mod Embedding
+pub mod LeastChains
+pub mod Rows
+pub mod Made
+pub mod Frames

@@ -12,8 +12,8 @@ use Rattle.gob_tree.specs.declared.graph.Program.{Program}
 use Rattle.constraint_sys.specs.Sound.{IsStarted}
 use Rattle.constraint_sys.specs.Table.{empty_key}
 use Rattle.arg_graph.specs.Following.{Offers, StackValue, top_frame}
+use Rattle.arg_graph.specs.Graphs.{vertex_cmp}
 use Rattle.arg_graph.specs.Vertices.{start_in}
-use Rattle.arg_graph.specs.contracts.vertex.VertexOrd.TheImpl.{ghosts as vertices}
 use Rattle.arg_graph.specs.declared.stack.Frame.{Frame}
 use Rattle.arg_graph.specs.declared.vertex.Label.TheVariants.{Enter}
 use Rattle.arg_graph.specs.declared.vertex.Vertex.{Vertex}
@@ -58,10 +58,6 @@ abbrev pub IsUpTo : {X : Type 0} → (X → X → Ordering) → List X → List 
 IsUpTo cmp [] ys = Unit {0}
 IsUpTo cmp (x ∷ xs) [] = ⊥
 IsUpTo cmp (x ∷ xs) (y ∷ ys) = (cmp x y ≡ Less) ⊎ ((x ≡ y) × IsUpTo cmp xs ys)
-
--- the order of unknowns
-abbrev pub vertex_cmp : Vertex → Vertex → Ordering
-vertex_cmp = vertices.cmp
 
 abbrev pub vertices_on : StackValue → List Vertex
 vertices_on stack = map (λ (x : Frame). x.vertex) stack

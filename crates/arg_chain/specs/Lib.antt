@@ -2,3 +2,4 @@ pub mod Walk
 pub mod Least
 pub mod Choice
 pub mod Chains
+pub mod Calls

@@ -12,10 +12,9 @@ use std::alloc::Global;
 pub(crate) fn distances(
     alloc: Global,
     graph: &[Vec<Hop>],
-    target: u32,
-) -> Result<Vec<Option<u32>>, Memory>
+    target: usize,
+) -> Result<Vec<Option<usize>>, Memory>
     requires graph { IsGraph graph.now }
-    requires few { length graph.now < 2 ^ 32 }
     requires target { target < length graph.now }
     ensures len { IfOk result (λ ds. length ds.items ≡ length graph.now) }
     ensures known { (u n : ℕ) → IfOk result (λ ds. known_at ds.items u ≡ Some n → IsDistance graph.now target u n) }
@@ -23,7 +22,7 @@ pub(crate) fn distances(
 {
     let before = turned(alloc, graph)?;
     let mut known = vec![in alloc; None; graph.len()]?;
-    let mut level: u32 = 0;
+    let mut level: usize = 0;
     let mut front = Vec::new(alloc);
     reach(&mut known, &mut front, target, level)?;
     'levels: while !front.is_empty() {
@@ -36,11 +35,11 @@ pub(crate) fn distances(
 /// One level more: the vertices from which a step leads to the front, and that weren't known.
 fn spread(
     alloc: Global,
-    before: &[Vec<u32>],
-    known: &mut Vec<Option<u32>>,
-    front: &[u32],
-    level: u32,
-) -> Result<Vec<u32>, Memory>
+    before: &[Vec<usize>],
+    known: &mut Vec<Option<usize>>,
+    front: &[usize],
+    level: usize,
+) -> Result<Vec<usize>, Memory>
     requires len { length known.old.items ≡ length before.now }
     requires front { (w : ℕ) → Contains front.now w → w < length before.now }
     requires before { (w u : ℕ) → Contains (before_at before.now w) u → u < length before.now }
@@ -48,16 +47,16 @@ fn spread(
 {
     let mut next = Vec::new(alloc);
     for w in front {
-        reach_each(known, &mut next, &before[*w as usize], level)?;
+        reach_each(known, &mut next, &before[*w], level)?;
     }
     Ok(next)
 }
 
 fn reach_each(
-    known: &mut Vec<Option<u32>>,
-    next: &mut Vec<u32>,
-    us: &[u32],
-    level: u32,
+    known: &mut Vec<Option<usize>>,
+    next: &mut Vec<usize>,
+    us: &[usize],
+    level: usize,
 ) -> Result<(), Memory>
     requires { (u : ℕ) → Contains us.now u → u < length known.old.items }
     ensures { OnOk result (Spreads known.old.items next.old.items (Contains us.now) level known.new.items next.new.items) }
@@ -69,16 +68,16 @@ fn reach_each(
 }
 
 fn reach(
-    known: &mut Vec<Option<u32>>,
-    next: &mut Vec<u32>,
-    u: u32,
-    level: u32,
+    known: &mut Vec<Option<usize>>,
+    next: &mut Vec<usize>,
+    u: usize,
+    level: usize,
 ) -> Result<(), Memory>
     requires { u < length known.old.items }
     ensures { OnOk result (Spreads known.old.items next.old.items (λ x. x ≡ u) level known.new.items next.new.items) }
 {
-    if known[u as usize].is_none() {
-        known[u as usize] = Some(level);
+    if known[u].is_none() {
+        known[u] = Some(level);
         next.push(u)?;
     }
     Ok(())

@@ -1,6 +1,6 @@
-/// A hop over an edge of a numbered graph, by the edge's number, and where it leads.
+/// A hop in a numbered graph: the number of its edge, and that of where it leads.
 #[derive(Clone, Copy, Debug, PartialEq, Eq)]
 pub struct Hop {
     pub edge: u32,
-    pub to: u32,
+    pub to: usize,
 }

@@ -13,7 +13,7 @@ use std::alloc::Global;
 /// A route: a root, and the hops that lead from it.
 #[derive(Drop)]
 pub struct Route {
-    pub root: u32,
+    pub root: usize,
     pub steps: Vec<Hop>,
 }
 
@@ -22,11 +22,10 @@ pub struct Route {
 pub fn least_route(
     alloc: Global,
     graph: &[Vec<Hop>],
-    roots: &[u32],
-    target: u32,
+    roots: &[usize],
+    target: usize,
 ) -> Result<Option<Route>, Memory>
     requires graph { IsGraph graph.now }
-    requires few { length graph.now < 2 ^ 32 }
     requires roots { (r : ℕ) → Contains roots.now r → r < length graph.now }
     requires target { target < length graph.now }
     ensures some { IfOk result (λ o. IfSome o (λ s. IsLeastRoute graph.now roots.now target s.root s.steps.items)) }
@@ -44,18 +43,18 @@ pub fn least_route(
 }
 
 /// The fewest steps from one of the roots.
-fn least_distance(roots: &[u32], known: &[Option<u32>]) -> Option<u32>
+fn least_distance(roots: &[usize], known: &[Option<usize>]) -> Option<usize>
     requires { (r : ℕ) → Contains roots.now r → r < length known.now }
     ensures { IsLeastOf (λ n. (r : ℕ) × Contains roots.now r × (known_at known.now r ≡ Some n)) result }
 {
     let mut best = None;
     for r in roots {
-        best = nearer(best, known[*r as usize]);
+        best = nearer(best, known[*r]);
     }
     best
 }
 
-fn nearer(best: Option<u32>, n: Option<u32>) -> Option<u32>
+fn nearer(best: Option<usize>, n: Option<usize>) -> Option<usize>
     ensures { result ≡ least_known best n }
 {
     match n {
@@ -64,7 +63,7 @@ fn nearer(best: Option<u32>, n: Option<u32>) -> Option<u32>
     }
 }
 
-fn improved(best: Option<u32>, x: u32, passes: bool) -> Option<u32>
+fn improved(best: Option<usize>, x: usize, passes: bool) -> Option<usize>
     ensures { result ≡ least_with best x passes }
 {
     if !passes {
@@ -76,7 +75,7 @@ fn improved(best: Option<u32>, x: u32, passes: bool) -> Option<u32>
     }
 }
 
-fn is_at(known: Option<u32>, n: u32) -> bool
+fn is_at(known: Option<usize>, n: usize) -> bool
     ensures { IsTrue result ↔ (known ≡ Some n) }
 {
     match known {
@@ -86,14 +85,14 @@ fn is_at(known: Option<u32>, n: u32) -> bool
 }
 
 /// The least root that is so many steps away.
-fn nearest(roots: &[u32], known: &[Option<u32>], n: u32) -> u32
+fn nearest(roots: &[usize], known: &[Option<usize>], n: usize) -> usize
     requires roots { (r : ℕ) → Contains roots.now r → r < length known.now }
     requires there { (r : ℕ) × IsAtRoot roots.now known.now n r }
     ensures { IsLeastOf (IsAtRoot roots.now known.now n) (Some result) }
 {
     let mut best = None;
     for r in roots {
-        best = improved(best, *r, is_at(known[*r as usize], n));
+        best = improved(best, *r, is_at(known[*r], n));
     }
     match best {
         Some(r) => r,
@@ -106,9 +105,9 @@ fn nearest(roots: &[u32], known: &[Option<u32>], n: u32) -> u32
 fn least_steps(
     alloc: Global,
     graph: &[Vec<Hop>],
-    known: &[Option<u32>],
-    root: u32,
-    n: u32,
+    known: &[Option<usize>],
+    root: usize,
+    n: usize,
 ) -> Result<Vec<Hop>, Memory>
     requires graph { IsGraph graph.now }
     requires len { length known.now ≡ length graph.now }
@@ -121,14 +120,14 @@ fn least_steps(
     let mut left = n;
     while left > 0 {
         left -= 1;
-        let step = least_step(&graph[at as usize], known, left);
+        let step = least_step(&graph[at], known, left);
         steps.push(step)?;
         at = step.to;
     }
     Ok(steps)
 }
 
-fn least_step(steps: &[Hop], known: &[Option<u32>], d: u32) -> Hop
+fn least_step(steps: &[Hop], known: &[Option<usize>], d: usize) -> Hop
     requires within { (s : TheHop) → Contains steps.now s → s.to < length known.now }
     requires can { CanStep steps.now known.now d }
     ensures { IsLeastStep steps.now known.now d result }
@@ -138,14 +137,14 @@ fn least_step(steps: &[Hop], known: &[Option<u32>], d: u32) -> Hop
     Hop { edge, to }
 }
 
-fn least_target(steps: &[Hop], known: &[Option<u32>], d: u32) -> u32
+fn least_target(steps: &[Hop], known: &[Option<usize>], d: usize) -> usize
     requires within { (s : TheHop) → Contains steps.now s → s.to < length known.now }
     requires can { CanStep steps.now known.now d }
     ensures { IsLeastOf (IsTarget steps.now known.now d) (Some result) }
 {
     let mut best = None;
     for step in steps {
-        best = improved(best, step.to, is_at(known[step.to as usize], d));
+        best = improved(best, step.to, is_at(known[step.to], d));
     }
     match best {
         Some(to) => to,
@@ -153,16 +152,28 @@ fn least_target(steps: &[Hop], known: &[Option<u32>], d: u32) -> u32
     }
 }
 
-fn least_edge(steps: &[Hop], to: u32) -> u32
+fn least_edge(steps: &[Hop], to: usize) -> u32
     requires { (s : TheHop) × Contains steps.now s × (s.to ≡ to) }
     ensures { IsLeastOf (IsEdgeTo steps.now to) (Some result) }
 {
     let mut best = None;
     for step in steps {
-        best = improved(best, step.edge, step.to == to);
+        best = improved_edge(best, step.edge, step.to == to);
     }
     match best {
         Some(edge) => edge,
         None => unreachable!(),
+    }
+}
+
+fn improved_edge(best: Option<u32>, x: u32, passes: bool) -> Option<u32>
+    ensures { result ≡ least_with best x passes }
+{
+    if !passes {
+        return best;
+    }
+    match best {
+        Some(b) => Some(if x < b { x } else { b }),
+        None => Some(x),
     }
 }

@@ -7,20 +7,19 @@ use gob_tree::Memory;
 use std::alloc::Global;
 
 /// For each vertex those from which a step leads to it.
-pub(crate) fn turned(alloc: Global, graph: &[Vec<Hop>]) -> Result<Vec<Vec<u32>>, Memory>
+pub(crate) fn turned(alloc: Global, graph: &[Vec<Hop>]) -> Result<Vec<Vec<usize>>, Memory>
     requires graph { IsGraph graph.now }
-    requires few { length graph.now ≤ 2 ^ 32 }
     ensures len { IfOk result (λ t. length t.items ≡ length graph.now) }
     ensures members { (u w : ℕ) → IfOk result (λ t. Contains (before_at t.items w) u ↔ HasStep graph.now u w) }
 {
     let mut rows = no_rows(alloc, graph.len())?;
     for (u, steps) in graph.iter().enumerate() {
-        add_each(&mut rows, steps, u as u32)?;
+        add_each(&mut rows, steps, u)?;
     }
     Ok(rows)
 }
 
-fn no_rows(alloc: Global, vertices: usize) -> Result<Vec<Vec<u32>>, Memory>
+fn no_rows(alloc: Global, vertices: usize) -> Result<Vec<Vec<usize>>, Memory>
     ensures len { IfOk result (λ t. length t.items ≡ vertices) }
     ensures none { (u w : ℕ) → IfOk result (λ t. Contains (before_at t.items w) u → ⊥) }
 {
@@ -31,7 +30,7 @@ fn no_rows(alloc: Global, vertices: usize) -> Result<Vec<Vec<u32>>, Memory>
     Ok(rows)
 }
 
-fn add_each(rows: &mut Vec<Vec<u32>>, steps: &[Hop], u: u32) -> Result<(), Memory>
+fn add_each(rows: &mut Vec<Vec<usize>>, steps: &[Hop], u: usize) -> Result<(), Memory>
     requires { (w : ℕ) → LeadsTo steps.now w → w < length rows.old.items }
     ensures len { OnOk result (length rows.new.items ≡ length rows.old.items) }
     ensures members { (w x : ℕ) → OnOk result (Contains (before_at rows.new.items w) x ↔ (Contains (before_at rows.old.items w) x ⊎ (LeadsTo steps.now w × (x ≡ u)))) }
@@ -42,11 +41,11 @@ fn add_each(rows: &mut Vec<Vec<u32>>, steps: &[Hop], u: u32) -> Result<(), Memor
     Ok(())
 }
 
-fn add(rows: &mut Vec<Vec<u32>>, w: u32, u: u32) -> Result<(), Memory>
+fn add(rows: &mut Vec<Vec<usize>>, w: usize, u: usize) -> Result<(), Memory>
     requires { w < length rows.old.items }
     ensures len { OnOk result (length rows.new.items ≡ length rows.old.items) }
     ensures members { (y x : ℕ) → OnOk result (Contains (before_at rows.new.items y) x ↔ (Contains (before_at rows.old.items y) x ⊎ ((y ≡ w) × (x ≡ u)))) }
 {
-    rows[w as usize].push(u)?;
+    rows[w].push(u)?;
     Ok(())
 }

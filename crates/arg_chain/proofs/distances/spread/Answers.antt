@@ -29,3 +29,6 @@ loop-w-preserved c =
     let row : before_at t w ≡ c.deref.result.now = row_read t w c.index-before-w.result within c.index-before-w.is ∙ sym c.deref.ensures.value in
     spreads_more c.args.known.now.items [] c.args.level (IsBeforeOne t (take i front)) (Contains c.deref.result.now) (IsBeforeOne t (take (i + 1) front))
     c.loop-w.known.items c.reach_each.new.known.items c.loop-w.next.items c.reach_each.new.next.items c.loop-w.invariant c.in_ok-reach_each.ensures (before_more t front i c.deref.result.now c.loop-w-test.true row)
+
+pub offset_bounds-before-w : goal.offset_bounds-before-w
+offset_bounds-before-w c = (let low = c.requires.front _ (Contains-get_or c.args.front.now c.loop-w.w-index 0 c.loop-w-test.true) in omega (arith, low))

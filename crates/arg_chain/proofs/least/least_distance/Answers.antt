@@ -1,4 +1,4 @@
-use Rattle.std.proofs.Common.{◌≡◌, ◌+◌, ℕ, List, Option, Some, take, subst, sym}
+use Rattle.std.proofs.Common.{◌≡◌, ◌+◌, ℕ, List, Option, Some, take, subst, sym, arith}
 use Rattle.std.specs.Prelude.{Contains}
 use Rattle.std.proofs.lemmas.List.{take_all}
 use Rattle.std.proofs.lemmas.List.Elements.{Contains-get_or}
@@ -24,3 +24,6 @@ returns c =
     let known = c.args.known.now in
     let all : take c.loop-r.r-index c.args.roots.now ≡ c.args.roots.now = take_all c.loop-r.r-index c.args.roots.now c.loop-r-test.false in
     subst (λ (l : List ℕ). IsLeastOf (λ n. (r : ℕ) × Contains l r × (known_at known r ≡ Some n)) c.loop-r.best) all c.loop-r.invariant
+
+pub offset_bounds-known-r : goal.offset_bounds-known-r
+offset_bounds-known-r c = (let low = c.requires _ (Contains-get_or c.args.roots.now c.loop-r.r-index 0 c.loop-r-test.true) in omega (arith, low))

@@ -11,7 +11,7 @@ loop-step-preserved c =
     let i = c.loop-step.step-index in
     let s : Hop = get_or steps i (record { edge = 0; to = 0 }) in
     let is : s ≡ get_or steps i s = get_or_default steps i (record { edge = 0; to = 0 }) s c.loop-step-test.true in
-    subst (λ (o : Option ℕ). IsLeastOf (IsEdgeTo (take (i + 1) steps) c.args.to) o) (sym c.improved-best.ensures)
+    subst (λ (o : Option ℕ). IsLeastOf (IsEdgeTo (take (i + 1) steps) c.args.to) o) (sym c.improved_edge-best.ensures)
     (least_more (IsEdgeTo (take i steps) c.args.to) (IsEdgeTo (take (i + 1) steps) c.args.to) c.loop-step.best s.edge (nat_eq s.to c.args.to) c.loop-step.invariant (edges_more steps i s c.loop-step-test.true is c.args.to (nat_eq s.to c.args.to) (same_test s.to c.args.to)))
 
 pub unreachable-requires : goal.unreachable-requires

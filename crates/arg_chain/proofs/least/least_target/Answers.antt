@@ -1,4 +1,4 @@
-use Rattle.std.proofs.Common.{◌≡◌, ◌+◌, ℕ, List, Option, take, get_or, subst, sym, refl}
+use Rattle.std.proofs.Common.{◌≡◌, ◌+◌, ℕ, List, Option, take, get_or, subst, sym, refl, arith}
 use Rattle.std.proofs.lemmas.List.{take_all, get_or_default}
 use Rattle.std.proofs.lemmas.List.Elements.{Contains-get_or}
 use Rattle.arg_chain.specs.declared.hop.Hop.{Hop}
@@ -31,3 +31,6 @@ returns c =
     let all : take c.loop-step.step-index c.args.steps.now ≡ c.args.steps.now = take_all c.loop-step.step-index c.args.steps.now c.loop-step-test.false in
     let least = subst (λ (l : List Hop). IsLeastOf (IsTarget l c.args.known.now c.args.d) c.loop-step.best) all c.loop-step.invariant in
     subst (λ (o : Option ℕ). IsLeastOf (IsTarget c.args.steps.now c.args.known.now c.args.d) o) c.in-Some.is least
+
+pub offset_bounds-known-step : goal.offset_bounds-known-step
+offset_bounds-known-step c = (let low = c.requires.within _ (Contains-get_or c.args.steps.now c.loop-step.step-index (record { edge = 0; to = 0 }) c.loop-step-test.true) in omega (arith, low))

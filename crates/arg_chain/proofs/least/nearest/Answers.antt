@@ -1,4 +1,4 @@
-use Rattle.std.proofs.Common.{◌≡◌, ◌+◌, ℕ, List, Option, take, get_or, subst, sym}
+use Rattle.std.proofs.Common.{◌≡◌, ◌+◌, ℕ, List, Option, take, get_or, subst, sym, arith}
 use Rattle.std.proofs.lemmas.List.{take_all}
 use Rattle.std.proofs.lemmas.List.Elements.{Contains-get_or}
 use Rattle.arg_chain.specs.Choice.{IsLeastOf, IsAtRoot}
@@ -27,3 +27,6 @@ returns c =
     let all : take c.loop-r.r-index c.args.roots.now ≡ c.args.roots.now = take_all c.loop-r.r-index c.args.roots.now c.loop-r-test.false in
     let least = subst (λ (l : List ℕ). IsLeastOf (IsAtRoot l c.args.known.now c.args.n) c.loop-r.best) all c.loop-r.invariant in
     subst (λ (o : Option ℕ). IsLeastOf (IsAtRoot c.args.roots.now c.args.known.now c.args.n) o) c.in-Some.is least
+
+pub offset_bounds-known-r : goal.offset_bounds-known-r
+offset_bounds-known-r c = (let low = c.requires.roots _ (Contains-get_or c.args.roots.now c.loop-r.r-index 0 c.loop-r-test.true) in omega (arith, low))
