@@ -91,12 +91,7 @@ fn with_frames(
 }
 
 /// The stack after `Leave`.
-fn left(
-    alloc: Global,
-    graph: &Graph,
-    below: &[Frame],
-    top: &Frame,
-) -> Result<Option<Stack>, Memory>
+fn left(alloc: Global, graph: &Graph, below: &[Frame], top: &Frame) -> Result<Option<Stack>, Memory>
     ensures { IfOk result (λ o. o ≡ left (offered_in graph.now) (below.now ++ top.now ∷ [])) }
 {
     if top.vertex.node == 1 {

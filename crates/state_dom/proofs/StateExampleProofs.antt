@@ -30,6 +30,7 @@ owns_second t = λ m held. elim (cases_eq m 1) [
   | inl same ↦ subst (λ (k : ℕ). OwnedBy t k) (sym same) refl
   | inr other ↦ absurd (omega (arith, bit_at-pow_other 1 m other, held))
 ]
+
 owns_none : (owned : List (Option ℕ)) (t : ℕ) → OwnsEach owned t 0
 owns_none owned t = λ m held. absurd (omega (arith, bit_at-zero m, held))
 
