@@ -77,6 +77,9 @@ first_end_stop {ts = ts} {mid = mid} {t = t} q h0 h1 h2 d b = is_row {ps = simpl
 pub no_test_found : {ts us : List Terminal} {t : Terminal} → ts ≡ t ∷ us → t.kind ≡ kinds.Semicolon → ReadsTest (within 0) ts None us (within 0)
 no_test_found q h = grammar.no_test (next_is q h)
 
+pub test_found : {ts us rest : List Terminal} {b : Nesting} {e : RawExpr} → ReadsWhole (within 0) ts e us b → Next kinds.Semicolon us rest → ReadsTest (within 0) ts (Some e) rest b
+test_found d n = grammar.test d n
+
 not_test : (k : Kind) → (k ≡ kinds.Semicolon → ⊥) → is_semicolon k ≡ false
 not_test kinds.Semicolon h0 = absurd (h0 refl)
 not_test _ h0 = refl

@@ -66,7 +66,7 @@ pub(crate) fn first(
 }
 
 /// The condition of a `for`: `[ expr ] ";"`.
-#[tactic(auto, using(crate::proofs::ClauseExits::no_test_found, crate::specs::Grammar::test, crate::proofs::ClauseExits::test_whole_stop, crate::proofs::ClauseExits::test_end_stop))]
+#[tactic(auto, using(crate::proofs::ClauseExits::no_test_found, crate::proofs::ClauseExits::test_found, crate::proofs::ClauseExits::test_whole_stop, crate::proofs::ClauseExits::test_end_stop))]
 pub(crate) fn test(
     alloc: Global,
     tokens: &[Terminal],
