@@ -1,5 +1,5 @@
 -- The counts after a name's count was set to one more.
-use Rattle.std.proofs.Common.{◌≡◌, ℕ, ◌≤◌, ◌-◌, ◌^◌, List, Option, Some, unwrap_or, Bool, true, false, cond, refl, ap, arith}
+use Rattle.std.proofs.Common.{◌≡◌, ◌≢◌, sym, ℕ, ◌≤◌, ◌-◌, ◌^◌, List, Option, Some, unwrap_or, Bool, true, false, cond, refl, ap, arith}
 use Rattle.std.specs.Str.{bytes_eq}
 use Rattle.std.proofs.lemmas.Slice.Eq.{bytes_eq-Decides}
 use Rattle.gob_outside.specs.Count.{one_more, Rose}
@@ -29,3 +29,11 @@ noted-never_falls counts name fits other = at_test (bytes_eq name other) (λ sam
 -- the name's own count rose
 pub noted-rose : (counts : List ℕ → ℕ) (name : List ℕ) → counts name ≤ 2 ^ 64 - 1 → Rose (counts name) (noted counts name name)
 noted-rose counts name fits = rw ((bytes_eq-Decides name name).1 refl) (grind arith)
+
+-- no other count changes
+pub noted-others : (counts : List ℕ → ℕ) (name other : List ℕ) → other ≢ name → noted counts name other ≡ counts other
+noted-others counts name other differs = at_test (bytes_eq name other) (λ same. (bytes_eq-Decides name other).0 same)
+  where
+    at_test : (b : Bool) → (b ≡ true → name ≡ other) → cond b (one_more (counts name)) (counts other) ≡ counts other
+    at_test true same = absurd (differs (sym (same refl)))
+    at_test false same = refl

@@ -16,6 +16,7 @@ pub(crate) type FaultCounts = BTreeMap<String, u64>;
 pub(crate) fn failure(counts: &mut FaultCounts, alloc: Global, name: &str) -> FileFail
     ensures failed { (other : List ℕ) → result ≡ FileFail.Failed → count_of counts.new other
         ≡ noted (count_of counts.old) name.now other }
+    ensures others { (other : List ℕ) → other ≢ name.now → count_of counts.new other ≡ count_of counts.old other }
     ensures rose { result ≡ FileFail.Failed
         → Rose (count_of counts.old name.now) (count_of counts.new name.now) }
     ensures never_falls { (other : List ℕ) → count_of counts.old other ≤ count_of counts.new other }
@@ -33,6 +34,7 @@ pub(crate) fn failure(counts: &mut FaultCounts, alloc: Global, name: &str) -> Fi
 fn note(counts: &mut FaultCounts, alloc: Global, name: &str) -> Result<(), Memory>
     ensures ok { (other : List ℕ) → OnOk result (count_of counts.new other
         ≡ noted (count_of counts.old) name.now other) }
+    ensures others { (other : List ℕ) → other ≢ name.now → count_of counts.new other ≡ count_of counts.old other }
     ensures rose { OnOk result (Rose (count_of counts.old name.now) (count_of counts.new name.now)) }
     ensures never_falls { (other : List ℕ) → count_of counts.old other ≤ count_of counts.new other }
     ensures err { (other : List ℕ) → OnErr result (count_of counts.new other ≡ count_of counts.old other) }

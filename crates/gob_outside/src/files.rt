@@ -1,5 +1,6 @@
-ghost use Rattle.std.specs.Prelude.{◌≡◌, ℕ, ◌≤◌, ◌<◌, List, length, vec_len, Option, IfOk, IfSome, IsSomeAnd};
+ghost use Rattle.std.specs.Prelude.{◌≡◌, ◌≢◌, ℕ, ◌≤◌, ◌<◌, List, length, vec_len, Option, IfOk, IfSome, IsSomeAnd};
 ghost use Rattle.gob_outside.specs.Count.{Rose};
+ghost use Rattle.gob_outside.specs.Faults.{Asks};
 
 use std::alloc::Global;
 
@@ -20,10 +21,13 @@ pub trait Files {
     ghost contents: { Self → Option (List ℕ → Option (List ℕ)) };
     // How many loads of a name failed; 0 for a name of which none did.
     ghost faults: { Self → List ℕ → ℕ };
+    // The names that were asked for so far, in order, where the object tells them.
+    ghost asked: { Self → Option (List (List ℕ)) };
 
     /// All bytes of a file of at most `limit` bytes. `Failed` comes only where the count of this
     /// very name rose. Of a load that isn't `Failed` `TooLong` comes exactly where the file has
-    /// more than `limit` bytes, and `Memory` is want of memory.
+    /// more than `limit` bytes, and `Memory` is want of memory. No count of another name changes,
+    /// and no other name is asked for.
     fn load(&mut self, alloc: Global, name: &str, limit: usize) -> Result<Vec<u8>, FileFail>
         ensures within { IfOk result (λ bytes. vec_len bytes ≤ limit) }
         ensures loaded { IfOk result (λ bytes. IfSome (contents self.old)
@@ -34,5 +38,7 @@ pub trait Files {
         ensures failed { result ≡ Err FileFail.Failed
             → Rose (faults self.old name.now) (faults self.new name.now) }
         ensures never_falls { (other : List ℕ) → faults self.old other ≤ faults self.new other }
+        ensures others { (other : List ℕ) → other ≢ name.now → faults self.new other ≡ faults self.old other }
+        ensures asks { Asks (asked self.old) name.now (asked self.new) }
         ensures kept { contents self.new ≡ contents self.old };
 }

@@ -1,7 +1,7 @@
-ghost use Rattle.std.specs.Prelude.{◌≡◌, ◌≢◌, ℕ, ◌≤◌, ◌<◌, List, length, Option, Some, None, Ok, IsOk, IfOk, MatchOption};
+ghost use Rattle.std.specs.Prelude.{◌≡◌, ◌≢◌, ℕ, ◌≤◌, ◌<◌, ◌++◌, List, [], ◌∷◌, length, Option, Some, None, Ok, IsOk, IfOk, OnOk, OnErr, MatchOption, option_map};
 ghost use Rattle.gob_outside.specs.declared.files.FileFail.{FileFail};
 ghost use Rattle.gob_outside.specs.Count.{Rose, one_more, fails_next};
-ghost use Rattle.gob_outside.specs.Faults.{count_of, noted};
+ghost use Rattle.gob_outside.specs.Faults.{Asks, count_of, noted};
 ghost use Rattle.gob_outside.specs.MemFiles.{content_of, load_answer};
 
 use crate::faults::{FaultCounts, failure};
@@ -16,6 +16,7 @@ pub struct MemFiles {
     files: Vec<(Text, Vec<u8>)>,
     failing: Vec<u64>,
     calls: u64,
+    asked: Vec<Text>,
     faults: FaultCounts,
 }
 
@@ -31,15 +32,34 @@ impl MemFiles {
         ensures files { IfOk result (λ held. held.files ≡ files) }
         ensures failing { IfOk result (λ held. held.failing ≡ failing) }
         ensures calls { IfOk result (λ held. held.calls ≡ 0) }
+        ensures asked { IfOk result (λ held. held.asked.items ≡ []) }
         ensures faults { (name : List ℕ) → IfOk result (λ held. count_of held.faults name ≡ 0) }
     {
         Ok(MemFiles {
             files,
             failing,
             calls: 0,
+            asked: Vec::new(alloc),
             faults: BTreeMap::new(alloc),
         })
     }
+
+    /// The names that were asked for so far, in order.
+    pub fn asked(&self) -> &[Text]
+        ensures { result.now ≡ self.now.asked.items }
+    {
+        self.asked.as_slice()
+    }
+}
+
+// Adds a name; after want of memory there are the same.
+fn note_asked(asked: &mut Vec<Text>, alloc: Global, name: &str) -> Result<(), Memory>
+    ensures ok { OnOk result (asked.new.items ≡ asked.old.items ++ name.now ∷ []) }
+    ensures err { OnErr result (asked.new.items ≡ asked.old.items) }
+{
+    let text = Text::of(alloc, name.as_bytes())?;
+    asked.push(text)?;
+    Ok(())
 }
 
 // The bytes of the first file of a name.
@@ -60,9 +80,11 @@ impl Files for MemFiles {
 
     ghost faults = { λ held. count_of held.faults };
 
+    ghost asked = { λ held. Some held.asked.items };
+
     /// Fails where this is a call that is to fail, or where there is no file of this name; that
-    /// is counted for the name. `Memory` comes also where a failure couldn't be counted, and no
-    /// count changes then.
+    /// is counted for the name. `Memory` comes also where a name or a failure couldn't be noted, and
+    /// no count changes then.
     fn load(&mut self, alloc: Global, name: &str, limit: usize) -> Result<Vec<u8>, FileFail>
         ensures ok { IfOk result (λ bytes. load_answer (fails_next self.old.failing.items self.old.calls)
             (content_of self.old.files.items name.now) limit ≡ Ok bytes.items) }
@@ -71,6 +93,7 @@ impl Files for MemFiles {
             (content_of self.old.files.items name.now) limit ≡ Err fail }
         ensures held { self.new ≡ record self.old {
           calls = one_more self.old.calls;
+          asked = self.new.asked;
           faults = self.new.faults;
         } }
         ensures counted { (other : List ℕ) → result ≡ Err FileFail.Failed
@@ -81,8 +104,14 @@ impl Files for MemFiles {
             → Rose (count_of self.old.faults name.now) (count_of self.new.faults name.now) }
         ensures never_falls { (other : List ℕ)
             → count_of self.old.faults other ≤ count_of self.new.faults other }
+        ensures others { (other : List ℕ) → other ≢ name.now
+            → count_of self.new.faults other ≡ count_of self.old.faults other }
+        ensures asks { Asks (Some self.old.asked.items) name.now (Some self.new.asked.items) }
     {
         self.calls = self.calls.saturating_add(1);
+        if note_asked(&mut self.asked, alloc, name).is_err() {
+            return Err(FileFail::Memory);
+        }
         let fails = self.failing.contains(&self.calls);
         match content(self.files.as_slice(), name) {
             Some(bytes) if !fails => copied(alloc, bytes, limit),
@@ -130,6 +159,11 @@ mod tests {
             assert_eq!(rt; count_so_far(&files.faults, name), 1);
         }
         assert_eq!(rt; count_so_far(&files.faults, "a.c"), 0);
+        for (place, name) in ["a.c", "b.c", "b.c", "c.c"].iter().enumerate() {
+            let asked = files.asked().get(place);
+            assert!(rt; asked.is_some_and(|text| text.as_bytes() == name.as_bytes()));
+        }
+        assert_eq!(rt; files.asked().len(), 4);
         Ok(())
     }
 }

@@ -37,6 +37,8 @@ impl<'a, R: FileAccess> Files for StdFiles<'a, R> {
 
     ghost faults = { λ files. count_of files.faults };
 
+    ghost asked = { λ _. None };
+
     /// A name that isn't there, that is a directory's or that may not be read is `Failed`. At most
     /// `limit + 1` bytes are read. `Memory` comes also where a failure couldn't be counted.
     fn load(&mut self, alloc: Global, name: &str, limit: usize) -> Result<Vec<u8>, FileFail> {

@@ -1,3 +1,5 @@
+pub mod Accepting
 pub mod Asked
+pub mod Solving
 pub mod Telling
 pub mod Wanting

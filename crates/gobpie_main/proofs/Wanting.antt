@@ -1,25 +1,41 @@
 -- The answer where memory is wanting.
-use Rattle.std.proofs.Common.{refl}
-use Rattle.std.specs.Prelude.{List}
+use Rattle.std.proofs.Common.{refl, inr}
+use Rattle.std.specs.Prelude.{List, ℕ}
 use Rattle.command_words.specs.Reading.{Word}
 use Rattle.gobpie_main.specs.declared.status.Status.TheVariants.{Memory}
-use Rattle.gobpie_main.specs.Answer.{memory_line}
-use Rattle.gobpie_main.specs.Batch.{AnswersWords, Outside, Says}
+use Rattle.gobpie_main.specs.Analyse.{AnswersAnalyse, AnswersText}
+use Rattle.gobpie_main.specs.Batch.{AnswersWords}
+use Rattle.gobpie_main.specs.Lines.{memory_line}
+use Rattle.gobpie_main.specs.Outside.{AsksFor, Outside, SameFiles, Said, SinkNow}
 
-pub memory_answers : (words : List Word) (before after : Outside) → Says before after memory_line → AnswersWords words Memory before after
-memory_answers words before after said = record {
+pub memory_of_text : (text : List ℕ) (budget : ℕ) (before after : SinkNow) → AnswersText text budget Memory before after
+memory_of_text text budget before after = record {
+  refused = λ is. absurd (cc is);
+  complete = λ is. absurd (cc is);
+  cut_short = λ is. absurd (cc is);
+  spent = λ is. absurd (cc is);
+}
+
+asks_nothing : (file : List ℕ) (before after : Outside) → SameFiles before after → AsksFor file before after
+asks_nothing file before after same = record { others = λ other differs. same.read_faults other; asked = inr same.asked }
+
+pub memory_of_analyse : (file : List ℕ) (budget : ℕ) (before after : Outside) → SameFiles before after → Said before.sink after.sink memory_line → AnswersAnalyse file budget Memory before after
+memory_of_analyse file budget before after same said = record {
+  asks = asks_nothing file before after same;
+  not_usage = λ is. absurd (cc is);
+  read_fault = λ is. absurd (cc is);
+  read_fault_said = λ is. absurd (cc is);
+  answer = λ text told. memory_of_text text budget before.sink after.sink;
+  write_fault = λ is. absurd (cc is);
+  spent_said = λ is. absurd (cc is);
+  memory_said = λ is. said;
+}
+
+pub memory_answers : (words : List Word) (before after : Outside) → SameFiles before after → Said before.sink after.sink memory_line → AnswersWords words Memory before after
+memory_answers words before after same said = record {
   usage = λ not_memory. absurd (not_memory refl);
   usage_said = λ is. absurd (cc is);
-  read_fault = λ file budget asks is. absurd (cc is);
-  read_fault_said = λ is. absurd (cc is);
-  answer = λ file budget text asks told. record {
-    refused = λ is. absurd (cc is);
-    refused_said = λ is. absurd (cc is);
-    complete = λ is. absurd (cc is);
-    cut_short = λ is. absurd (cc is);
-    spent = λ is. absurd (cc is);
-  };
-  write_fault = λ is. absurd (cc is);
-  spent_said = λ file budget asks is. absurd (cc is);
+  analyse = λ file budget asks. memory_of_analyse file budget before after same said;
+  untouched = λ none. same;
   memory_said = λ is. said;
 }

@@ -1,6 +1,9 @@
-pub mod Answer
+pub mod Analyse
 pub mod Arguments
 pub mod Batch
 pub mod Command
+pub mod Lines
+pub mod Loading
 pub mod Numbers
+pub mod Outside
 pub mod Reports

@@ -4,10 +4,12 @@ ghost use Rattle.std.specs.Process.{exit_status};
 ghost use Rattle.gobpie_main.specs.Arguments.{IsWordsOf};
 ghost use Rattle.gobpie_main.specs.Batch.{AnswersWords};
 ghost use Rattle.gobpie_main.specs.Numbers.{number_of};
+ghost use Rattle.gobpie_main.specs.Outside.{outside};
 ghost use Rattle.gobpie_main.specs.declared.status.Status.{Status};
 
 use crate::arguments::{Arguments, StdArguments, words_of};
-use crate::batch::{run_batch, want_of_memory};
+use crate::batch::run_batch;
+use crate::lines::want_of_memory;
 use crate::status::Status;
 use gob_outside::{Files, Sink, StdFiles, StdOut};
 use std::alloc::Global;
@@ -25,8 +27,8 @@ pub fn run_arguments<A: Arguments, F: Files, O: Sink>(
 ) -> ExitCode
     ensures { (words : List (List ℕ)) × (status : Status) × IsWordsOf (A.told arguments.now) words × (exit_status result ≡ number_of status)
         × AnswersWords words status
-        (record { contents = F.contents files.old; read_faults = F.faults files.old; written = O.written out.old; write_faults = O.write_faults out.old })
-        (record { contents = F.contents files.new; read_faults = F.faults files.new; written = O.written out.new; write_faults = O.write_faults out.new }) }
+        (outside F.contents F.faults F.asked O.written O.write_faults files.old out.old)
+        (outside F.contents F.faults F.asked O.written O.write_faults files.new out.new) }
 {
     match words_of(alloc, arguments) {
         Ok(words) => exit_code(run_batch(alloc, words.as_slice(), files, out)),

@@ -2,14 +2,14 @@
 //! way to end; and the edge at which the system gives the words and takes the exit status.
 #![tactic(auto)]
 
+mod analyse;
 mod arguments;
 mod batch;
 mod edge;
+mod lines;
+mod loading;
 mod report;
-mod solve;
 mod status;
-#[cfg(test)]
-mod tests;
 mod words;
 
 pub use arguments::{Arguments, StdArguments};

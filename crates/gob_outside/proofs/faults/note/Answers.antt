@@ -1,9 +1,9 @@
-use Rattle.std.proofs.Common.{◌≡◌, ◌≤◌, ◌-◌, ◌^◌, string_bytes, rules, arith, sym}
+use Rattle.std.proofs.Common.{◌≡◌, ◌≤◌, ◌-◌, ◌^◌, string_bytes, rules, arith, sym, ◌∙◌}
 use Rattle.std.specs.BTreeMap.{get_by_text}
 use Rattle.std.proofs.lemmas.Map.Text.{btree_map_updates_text}
 use Rattle.std.proofs.lemmas.Result.{IfOk-at_ok}
 use Rattle.gob_outside.specs.Faults.{count_of}
-use Rattle.gob_outside.proofs.Noting.{counts-set, noted-never_falls, noted-rose}
+use Rattle.gob_outside.proofs.Noting.{counts-set, noted-never_falls, noted-others, noted-rose}
 use Rattle.gob_outside.proofs.faults.note.Goals as goal
 
 -- the key has the name's bytes, so the insertion set the name's count
@@ -22,3 +22,6 @@ pub returns-clause-never_falls : goal.returns-clause-never_falls
 returns-clause-never_falls c = λ other.
     let fits : count_of c.args.counts.now c.args.name.now ≤ 2 ^ 64 - 1 = rw (sym c.count_so_far.ensures) (omega arith) in
     rw (returns-clause-ok c other) (noted-never_falls (count_of c.args.counts.now) c.args.name.now fits other)
+
+pub returns-clause-others : goal.returns-clause-others
+returns-clause-others c = λ other differs. returns-clause-ok c other ∙ noted-others (count_of c.args.counts.now) c.args.name.now other differs

@@ -1,4 +1,4 @@
-use Rattle.std.proofs.Common.{◌≡◌, List, ℕ, subst, sym}
+use Rattle.std.proofs.Common.{◌≡◌, List, ℕ, refl, subst, sym}
 use Rattle.std.specs.Process.{exit_status}
 use Rattle.gobpie_main.specs.Arguments.{IsWordsOf}
 use Rattle.gobpie_main.specs.Numbers.{number_of}
@@ -18,4 +18,4 @@ pub returns-in-Err : goal.returns-in-Err
 returns-in-Err g c =
     let told = g.A.Arguments.told c.args.arguments.now in
     let number : exit_status c.exit_code-in-Err.result ≡ number_of Memory = subst (λ (s : Status). exit_status c.exit_code-in-Err.result ≡ number_of s) c.want_of_memory.ensures.status c.exit_code-in-Err.ensures in
-    (words_told told, Memory, words_told_are told, number, memory_answers (words_told told) _ _ c.want_of_memory.ensures.said)
+    (words_told told, Memory, words_told_are told, number, memory_answers (words_told told) _ _ (record { read_faults = λ name. refl; asked = refl }) c.want_of_memory.ensures.said)

@@ -1,12 +1,18 @@
-use Rattle.std.proofs.Common.{◌≡◌, subst, sym}
-use Rattle.constraint_sys.proofs.SoundStart.{IsSound-initial}
-use Rattle.constraint_sys.specs.Sound.{IsSound}
-use Rattle.constraint_sys.specs.Turn.{Solving, initial_of}
+use Rattle.std.proofs.Common.{refl}
+use Rattle.gobpie_main.proofs.Solving.{sound_start, solved_completes, spent_spends, turnable_start}
 use Rattle.gobpie_main.proofs.report.report_on.Goals as goal
 
-pub solve-requires-clause-sound : goal.solve-requires-clause-sound
-solve-requires-clause-sound c =
-    let p = c.args.program.now in
-    let start : Solving = record { table = c.in_ok-table.table; dirty = c.in_ok-table.dirty } in
-    let is : start ≡ initial_of p = λ i. record { table = c.in_ok-table.ensures.table i; dirty = c.in_ok-table.ensures.dirty i } in
-    subst (λ (s : Solving). IsSound p s) (sym is) (IsSound-initial p c.requires.formed)
+pub solve-requires-clause-turnable : goal.solve-requires-clause-turnable
+solve-requires-clause-turnable c = turnable_start c.in_ok-job.job c.args.source c.in_ok-job.ensures.source c.in_ok-job.ensures.start c.requires.formed
+
+pub returns-in_ok-bytes-in-Clean : goal.returns-in_ok-bytes-in-Clean
+returns-in_ok-bytes-in-Clean c =
+    let solved = c.in-Clean.solved in
+    let sound = sound_start c.in_ok-job.job c.args.source c.in_ok-job.ensures.source c.in_ok-job.ensures.start c.requires.formed in
+    solved_completes c.in_ok-job.job c.args.source c.in_ok-job.ensures.source c.in_ok-job.ensures.start c.trees_are_shown.ensures c.requires c.args.budget solved c.in_ok-bytes-in-Clean.bytes.items
+    (c.in-Clean.ensures.clean solved refl) (c.in-Clean.ensures.shaped solved refl) (c.in-Clean.ensures.post_solution solved refl sound) c.in_ok-bytes-in-Clean.ensures
+
+pub returns-in_ok-line-in-Spent : goal.returns-in_ok-line-in-Spent
+returns-in_ok-line-in-Spent c =
+    let run = c.in-Spent._run in
+    (spent_spends c.in_ok-job.job c.args.source c.in_ok-job.ensures.source c.in_ok-job.ensures.start c.args.budget run (c.in-Spent.ensures.spent run refl), c.in_ok-line-in-Spent.ensures)

@@ -1,0 +1,2 @@
+int f(int n) { return n + 1; }
+int main(void) { return f(4); }

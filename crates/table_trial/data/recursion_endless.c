@@ -1,0 +1,2 @@
+int f(int n) { return f(n); }
+int main(void) { int x = f(0); return x; }

@@ -1,0 +1,5 @@
+int main(void) {
+  int i = 0;
+  while (i < 10) i++;
+  return i;
+}
