@@ -1,43 +1,49 @@
-use crate::build_up::{Kind, at, boxed, int, rows_of_one};
-use gob_tree::{Expr, Seq, Stmt};
+use crate::build_up::{X, drawn_one, g, int, part, set, two};
+use crate::drawing::lines;
+use gob_tree::{Expr, Stmt};
 use std::test::Fail;
 
 // if (x) ;
 #[test]
 fn an_if(rt: HostRuntime) -> Result<(), Fail> {
     let alloc = rt.alloc();
-    let yes = boxed(alloc, 2, Stmt::Empty)?;
-    let rows = rows_of_one(alloc, Stmt::If(Expr::Local(1), yes, None))?;
-    let edges = [
-        (0, Kind::Skip, 2, true),
-        (2, Kind::Holds, 4, false),
-        (2, Kind::Fails, 3, false),
-        (4, Kind::Skip, 3, false),
-        (3, Kind::Assign, 1, false),
+    let yes = part(alloc, 10, Stmt::Empty)?;
+    let wanted = [
+        "nodes 1:5 9:1 2:3 3:3 2:10",
+        "slots int int long",
+        "0 skip -> 2, silent",
+        "2 if %1 -> 4",
+        "2 unless %1 -> 3",
+        "4 skip -> 3",
+        "3 %0 = 0 -> 1",
     ];
-    assert_eq!(rt; rows.as_slice(), edges.as_slice());
+    let wanted = lines(alloc, wanted.as_slice())?;
+    let told = drawn_one(alloc, Stmt::If(Expr::Local(X), yes, None))?;
+    assert_eq!(rt; told.as_str(), wanted.as_str());
     Ok(())
 }
 
-// if (x) ; else { x = 4; ; }
+// if (g) x = 1; else { x = 4; ; }
 #[test]
 fn an_if_and_an_else(rt: HostRuntime) -> Result<(), Fail> {
     let alloc = rt.alloc();
-    let yes = boxed(alloc, 2, Stmt::Empty)?;
-    let mut list = Seq::new(alloc);
-    list.push(at(3, Stmt::Declare(1, Some(int(4)))))?;
-    list.push(at(3, Stmt::Empty))?;
-    let no = boxed(alloc, 3, Stmt::Block(list))?;
-    let rows = rows_of_one(alloc, Stmt::If(Expr::Local(1), yes, Some(no)))?;
-    let edges = [
-        (0, Kind::Skip, 2, true),
-        (2, Kind::Holds, 4, false),
-        (2, Kind::Fails, 5, false),
-        (4, Kind::Skip, 3, false),
-        (5, Kind::Assign, 6, false),
-        (6, Kind::Skip, 3, false),
-        (3, Kind::Assign, 1, false),
+    let yes = part(alloc, 10, set(X, int(1)))?;
+    let list = two(alloc, (24, set(X, int(4))), (31, Stmt::Empty))?;
+    let no = part(alloc, 22, Stmt::Block(list))?;
+    let wanted = [
+        "nodes 1:5 9:1 2:3 3:3 2:3 2:10 2:24 2:31",
+        "slots int int long int",
+        "0 skip -> 2, silent",
+        "2 %3 = @0 -> 4",
+        "4 if %3 -> 5",
+        "4 unless %3 -> 6",
+        "5 %1 = 1 -> 3",
+        "6 %1 = 4 -> 7",
+        "7 skip -> 3",
+        "3 %0 = 0 -> 1",
     ];
-    assert_eq!(rt; rows.as_slice(), edges.as_slice());
+    let wanted = lines(alloc, wanted.as_slice())?;
+    let told = drawn_one(alloc, Stmt::If(g(), yes, Some(no)))?;
+    assert_eq!(rt; told.as_str(), wanted.as_str());
     Ok(())
 }

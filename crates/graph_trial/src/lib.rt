@@ -6,6 +6,8 @@ mod branches;
 #[cfg(test)]
 mod build_up;
 #[cfg(test)]
+mod drawing;
+#[cfg(test)]
 mod inputs;
 #[cfg(test)]
 mod loops;
