@@ -8,6 +8,7 @@ pub mod FrontSizes
 pub mod Listed
 pub mod Mains
 pub mod Making
+pub mod OneOutcome
 pub mod Parameters
 pub mod RawFolds
 pub mod RawLevels

@@ -1,7 +1,7 @@
--- What the checks and the grammar give together.
+-- What the checks and the grammar give together, and that a text has one source or one first fault.
 --
 -- A reader should check: that nothing is asked of the tree but what its spelling gives, and nothing of the text.
-use Rattle.std.specs.Prelude.{◌≡◌, ℕ, pos, int_le, Bool, true, ◌&&◌, List, []}
+use Rattle.std.specs.Prelude.{◌≡◌, ◌≢◌, ℕ, pos, int_le, Bool, true, ◌&&◌, List, []}
 use Rattle.gob_tree.specs.Widths.{fits}
 use Rattle.gob_tree.specs.WellMade.{IsWellMade}
 use Rattle.c_lex.specs.Tokens.{AreTokens}
@@ -12,6 +12,10 @@ use Rattle.c_parse.specs.declared.raw.unit.RawItem.{RawItem}
 use Rattle.c_parse.specs.declared.raw.unit.RawUnit.{RawUnit}
 use Rattle.c_parse.specs.declared.terminal.Kind.{Kind}
 use Rattle.c_parse.specs.declared.terminal.Kind.TheVariants as kinds
+use Rattle.c_source.specs.declared.source.Source.{Source}
+use Rattle.c_check.specs.declared.fault.FrontFault.{FrontFault}
+use Rattle.c_check.specs.Faults.{want_of_memory}
+use Rattle.c_check.specs.Front.{IsSourceOf, IsFirstOf}
 use Rattle.c_check.specs.Spelled.{IsSpelled}
 use Rattle.c_check.specs.Units.{unit_faults, unit_of}
 
@@ -29,3 +33,15 @@ UnitsAreSpelled =
 -- a tree without a fault becomes a unit that may run and become graphs
 abbrev pub AcceptedIsWellMade : Type 0
 AcceptedIsWellMade = (raw : RawUnit) → IsSpelled raw.items → unit_faults raw ≡ [] → IsWellMade (unit_of raw)
+
+-- ---- what a text is to the analysis
+
+abbrev pub OneSource : Type 0
+OneSource = (text : List ℕ) (a b : Source) → IsSourceOf text a → IsSourceOf text b → a ≡ b
+
+-- want of memory tells nothing of a text
+abbrev pub OneFirst : Type 0
+OneFirst = (text : List ℕ) (f g : FrontFault) → f ≢ want_of_memory → g ≢ want_of_memory → IsFirstOf text f → IsFirstOf text g → f ≡ g
+
+abbrev pub NotBoth : Type 0
+NotBoth = (text : List ℕ) (source : Source) (fault : FrontFault) → IsSourceOf text source → IsFirstOf text fault → fault ≡ want_of_memory

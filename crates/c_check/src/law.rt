@@ -1,4 +1,4 @@
-ghost use Rattle.c_check.specs.Laws.{AcceptedIsWellMade, UnitsAreSpelled};
+ghost use Rattle.c_check.specs.Laws.{AcceptedIsWellMade, NotBoth, OneFirst, OneSource, UnitsAreSpelled};
 
 /// A tree that the grammar gives of a text's tokens is spelled so, and where it has no fault it
 /// becomes a well-made unit: its numbers are in range, its calls fit what they call, its names
@@ -6,4 +6,12 @@ ghost use Rattle.c_check.specs.Laws.{AcceptedIsWellMade, UnitsAreSpelled};
 pub fn accepted_is_well_made()
     ensures spelled { UnitsAreSpelled }
     ensures made { AcceptedIsWellMade }
+{}
+
+/// A text has one source or one first fault, and never both. Want of memory is no fault of the
+/// text, and may be told of any.
+pub fn one_outcome()
+    ensures source { OneSource }
+    ensures fault { OneFirst }
+    ensures either { NotBoth }
 {}

@@ -23,7 +23,7 @@ mod visible;
 
 pub use examples::limits_by_hand;
 pub use fault::{FrontFault, FrontKind};
-pub use law::accepted_is_well_made;
+pub use law::{accepted_is_well_made, one_outcome};
 pub use limits::Counted;
 pub use meaning::{Callee, Declared, Meaning, Signature};
 pub use phases::front;
