@@ -1,0 +1,53 @@
+pthread_mutex_t a = PTHREAD_MUTEX_INITIALIZER;
+pthread_mutex_t b = PTHREAD_MUTEX_INITIALIZER;
+int f0(int n) { return n; }
+int f1(int n) { int x0 = f0(0); int x1 = f0(1); int x2 = f0(n); return x0; }
+int f2(int n) { int x0 = f1(0); int x1 = f1(1); int x2 = f1(n); return x0; }
+int f3(int n) { int x0 = f2(0); int x1 = f2(1); int x2 = f2(n); return x0; }
+int f4(int n) { int x0 = f3(0); int x1 = f3(1); int x2 = f3(n); return x0; }
+int f5(int n) { int x0 = f4(0); int x1 = f4(1); int x2 = f4(n); return x0; }
+int f6(int n) { int x0 = f5(0); int x1 = f5(1); int x2 = f5(n); return x0; }
+int f7(int n) { int x0 = f6(0); int x1 = f6(1); int x2 = f6(n); return x0; }
+int f8(int n) { int x0 = f7(0); int x1 = f7(1); int x2 = f7(n); return x0; }
+int f9(int n) { int x0 = f8(0); int x1 = f8(1); int x2 = f8(n); return x0; }
+int f10(int n) { int x0 = f9(0); int x1 = f9(1); int x2 = f9(n); return x0; }
+int f11(int n) { int x0 = f10(0); int x1 = f10(1); int x2 = f10(n); return x0; }
+int f12(int n) { int x0 = f11(0); int x1 = f11(1); int x2 = f11(n); return x0; }
+int f13(int n) { int x0 = f12(0); int x1 = f12(1); int x2 = f12(n); return x0; }
+int f14(int n) { int x0 = f13(0); int x1 = f13(1); int x2 = f13(n); return x0; }
+int f15(int n) { int x0 = f14(0); int x1 = f14(1); int x2 = f14(n); return x0; }
+int f16(int n) { int x0 = f15(0); int x1 = f15(1); int x2 = f15(n); return x0; }
+int f17(int n) { int x0 = f16(0); int x1 = f16(1); int x2 = f16(n); return x0; }
+int f18(int n) { int x0 = f17(0); int x1 = f17(1); int x2 = f17(n); return x0; }
+int f19(int n) { int x0 = f18(0); int x1 = f18(1); int x2 = f18(n); return x0; }
+int f20(int n) { int x0 = f19(0); int x1 = f19(1); int x2 = f19(n); return x0; }
+int f21(int n) { int x0 = f20(0); int x1 = f20(1); int x2 = f20(n); return x0; }
+int f22(int n) { int x0 = f21(0); int x1 = f21(1); int x2 = f21(n); return x0; }
+int f23(int n) { int x0 = f22(0); int x1 = f22(1); int x2 = f22(n); return x0; }
+int f24(int n) { int x0 = f23(0); int x1 = f23(1); int x2 = f23(n); return x0; }
+int f25(int n) { int x0 = f24(0); int x1 = f24(1); int x2 = f24(n); return x0; }
+int f26(int n) { int x0 = f25(0); int x1 = f25(1); int x2 = f25(n); return x0; }
+int f27(int n) { int x0 = f26(0); int x1 = f26(1); int x2 = f26(n); return x0; }
+int f28(int n) { int x0 = f27(0); int x1 = f27(1); int x2 = f27(n); return x0; }
+int f29(int n) { int x0 = f28(0); int x1 = f28(1); int x2 = f28(n); return x0; }
+int f30(int n) { int x0 = f29(0); int x1 = f29(1); int x2 = f29(n); return x0; }
+int f31(int n) { int x0 = f30(0); int x1 = f30(1); int x2 = f30(n); return x0; }
+int f32(int n) { int x0 = f31(0); int x1 = f31(1); int x2 = f31(n); return x0; }
+int f33(int n) { int x0 = f32(0); int x1 = f32(1); int x2 = f32(n); return x0; }
+int f34(int n) { int x0 = f33(0); int x1 = f33(1); int x2 = f33(n); return x0; }
+int f35(int n) { int x0 = f34(0); int x1 = f34(1); int x2 = f34(n); return x0; }
+int f36(int n) { int x0 = f35(0); int x1 = f35(1); int x2 = f35(n); return x0; }
+int f37(int n) { int x0 = f36(0); int x1 = f36(1); int x2 = f36(n); return x0; }
+int f38(int n) { int x0 = f37(0); int x1 = f37(1); int x2 = f37(n); return x0; }
+int f39(int n) { int x0 = f38(0); int x1 = f38(1); int x2 = f38(n); return x0; }
+int f40(int n) { int x0 = f39(0); int x1 = f39(1); int x2 = f39(n); return x0; }
+int f41(int n) { int x0 = f40(0); int x1 = f40(1); int x2 = f40(n); return x0; }
+int f42(int n) { int x0 = f41(0); int x1 = f41(1); int x2 = f41(n); return x0; }
+int f43(int n) { int x0 = f42(0); int x1 = f42(1); int x2 = f42(n); return x0; }
+int f44(int n) { int x0 = f43(0); int x1 = f43(1); int x2 = f43(n); return x0; }
+int f45(int n) { int x0 = f44(0); int x1 = f44(1); int x2 = f44(n); return x0; }
+int f46(int n) { int x0 = f45(0); int x1 = f45(1); int x2 = f45(n); return x0; }
+int f47(int n) { int x0 = f46(0); int x1 = f46(1); int x2 = f46(n); return x0; }
+int f48(int n) { int x0 = f47(0); int x1 = f47(1); int x2 = f47(n); return x0; }
+int f49(int n) { int x0 = f48(0); int x1 = f48(1); int x2 = f48(n); return x0; }
+int main(void) { int y = f49(__VERIFIER_nondet_int()); pthread_mutex_lock(&a); y = f49(y); pthread_mutex_lock(&b); y = f49(y); return y; }

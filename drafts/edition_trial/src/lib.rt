@@ -1,0 +1,11 @@
+//! Editions of small texts: the tests of the graph, chains and editions over the whole way from a text
+//! to a solved table. It stands apart so that those crates' own checks need not pay for it.
+#![tactic(auto)]
+
+mod begin;
+#[cfg(test)]
+mod chains;
+#[cfg(test)]
+mod graphs;
+
+pub use begin::edition_of;
