@@ -1,5 +1,0 @@
-pub mod Hanging
-pub mod Marks
-pub mod Matching
-pub mod Removed
-pub mod Seeds
