@@ -1,6 +1,6 @@
 -- Faults along tokens: tokens are passed one by one, and what is told at one of them stands at its place, in the
 -- order of kinds. So faults ascend where tokens do.
-use Rattle.std.proofs.Common.{◌≡◌, refl, sym, ap, ◌∙◌, subst, ℕ, ◌≤◌, ◌==◌, Bool, true, false, List, [], ◌∷◌, ◌++◌, Option, None, Some, inl, inr, arith, append_assoc}
+use Rattle.std.proofs.Common.{◌≡◌, refl, sym, ◌∙◌, subst, ℕ, ◌≤◌, ◌==◌, Bool, true, false, List, [], ◌∷◌, ◌++◌, Option, None, Some, inl, inr, arith, append_assoc}
 use Rattle.std.specs.List.{AllByRecursion}
 use Rattle.std.proofs.lemmas.List.{append-nil}
 use Rattle.gob_tree.specs.declared.place.Place.{Place}
@@ -12,7 +12,7 @@ use Rattle.c_parse.specs.Grammar as grammar
 use Rattle.c_parse.specs.Grammar.{Next, ReadsName, ReadsOperator, place_at}
 use Rattle.c_check.specs.declared.fault.FrontFault.{FrontFault}
 use Rattle.c_check.specs.declared.fault.FrontKind.{FrontKind}
-use Rattle.c_check.specs.declared.fault.FrontKind.TheVariants.{Undeclared, WrongKind, WrongArity}
+use Rattle.c_check.specs.declared.fault.FrontKind.TheVariants.{WrongKind, WrongArity}
 use Rattle.c_check.specs.declared.meaning.Meaning.{Meaning}
 use Rattle.c_check.specs.declared.meaning.Meaning.TheVariants as meanings
 use Rattle.c_check.specs.Faults.{asks}

@@ -1,5 +1,5 @@
 -- The faults of an expression stand along the tokens that it is read from.
-use Rattle.std.proofs.Common.{◌≡◌, refl, sym, ap, ◌∙◌, ℕ, ℤ, pos, Bool, List, [], ◌∷◌, ◌++◌, length, Option, None, Some, append_assoc}
+use Rattle.std.proofs.Common.{◌≡◌, sym, ap, ◌∙◌, ℕ, ℤ, pos, Bool, List, [], ◌++◌, length, Option, append_assoc}
 use Rattle.gob_tree.specs.declared.expr.BinOp.{BinOp}
 use Rattle.gob_tree.specs.declared.expr.UnOp.{UnOp}
 use Rattle.gob_tree.specs.declared.expr.UnOp.TheVariants.{Neg, Not}

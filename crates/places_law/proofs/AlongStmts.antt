@@ -1,5 +1,5 @@
 -- The faults of a statement stand along the tokens that it is read from.
-use Rattle.std.proofs.Common.{◌≡◌, refl, sym, ap, ◌∙◌, ℕ, Bool, true, not, List, [], ◌∷◌, ◌++◌, length, map, Option, None, Some, append_assoc, arith}
+use Rattle.std.proofs.Common.{◌≡◌, refl, sym, ap, ◌∙◌, ℕ, Bool, true, not, List, [], ◌∷◌, ◌++◌, length, map, Option, append_assoc, arith}
 use Rattle.std.specs.Option.{option_map}
 use Rattle.gob_tree.specs.declared.expr.Width.{Width}
 use Rattle.gob_tree.specs.declared.place.Place.{Place}
@@ -17,9 +17,9 @@ use Rattle.c_check.specs.declared.fault.FrontFault.{FrontFault}
 use Rattle.c_check.specs.declared.fault.FrontKind.TheVariants.{Redeclared, WrongKind}
 use Rattle.c_check.specs.Names.{FileNames, BodyNames, meaning, is_declared_here, with_local, opened}
 use Rattle.c_check.specs.Rules.{is_thread_variable, is_mutex, is_thread_function, is_callable, number_faults, thread_faults, mutex_faults, started_faults, plain_call_faults, local_faults, fits_return, return_faults, jump_faults}
-use Rattle.c_check.specs.Bodies.{Reading, expr_faults, args_faults, optional_faults, sequence_faults, sequence_after, part_faults, part_after, for_head, for_body, return_value, reading_step, placed_step, reading_at, reading_of}
+use Rattle.c_check.specs.Bodies.{Reading, expr_faults, optional_faults, sequence_faults, sequence_after, part_faults, for_head, for_body, return_value, reading_step, placed_step, reading_at, reading_of}
 use Rattle.c_check.proofs.RawLevels.{fold-struct, fold-Declare, fold-DeclareThread, fold-Assign, fold-CallOnly, fold-If, fold-While, fold-DoWhile, fold-For, fold-Block, fold-Break, fold-Continue, fold-Return, fold-Create, fold-Join, fold-Lock, fold-Unlock, fold-Assert, fold-Empty}
-use Rattle.places_law.proofs.Along.{Told, full, asks_told, once_told, call_told, Along, none, is, join, behind, past, past_name, tell, tell_only, name, name_only}
+use Rattle.places_law.proofs.Along.{Told, full, asks_told, once_told, call_told, Along, none, is, join, behind, past, tell, tell_only, name, name_only}
 use Rattle.places_law.proofs.AlongExprs.{number_told, numbers_told, along_args, along_whole, along_condition, along_initial, update_faults, step_faults}
 
 abbrev Faults : Type 0

@@ -1,5 +1,5 @@
 -- The faults of items stand along the tokens that they are read from.
-use Rattle.std.proofs.Common.{◌≡◌, refl, sym, ap, ◌∙◌, ℕ, ℤ, pos, Bool, true, false, not, ◌&&◌, ◌||◌, cond, List, [], ◌∷◌, ◌++◌, map, Option, None, Some, append_assoc, arith}
+use Rattle.std.proofs.Common.{◌≡◌, refl, sym, ap, ◌∙◌, ℤ, pos, Bool, true, false, not, ◌&&◌, ◌||◌, cond, List, [], ◌∷◌, ◌++◌, map, None, Some, append_assoc, arith}
 use Rattle.std.proofs.lemmas.List.{append-nil}
 use Rattle.gob_tree.specs.Widths.{fits}
 use Rattle.gob_tree.specs.declared.expr.Width.{Width}
@@ -11,7 +11,6 @@ use Rattle.c_parse.specs.declared.raw.expr.RawName.{RawName}
 use Rattle.c_parse.specs.declared.raw.stmt.RawPlaced.{RawPlaced}
 use Rattle.c_parse.specs.declared.raw.unit.RawHead.{RawHead}
 use Rattle.c_parse.specs.declared.raw.unit.RawItem.{RawItem}
-use Rattle.c_parse.specs.declared.raw.unit.RawItem.TheVariants as tops
 use Rattle.c_parse.specs.declared.raw.unit.RawParam.{RawParam}
 use Rattle.c_parse.specs.Grammar as grammar
 use Rattle.c_parse.specs.Grammar.{Nesting, Next, ReadsName, ReadsType, ReadsLiteral, ReadsGlobals, ReadsMoreGlobals, ReadsAfterHead, ReadsParam, ReadsParamName, ReadsMoreParams, ReadsParams, ReadsThreadParam, ReadsThreadVoid, ReadsThreadName, ReadsVoided, ReadsNamed, ReadsTyped, ReadsMutexName, ReadsOuter, ReadsItem, ReadsUnit, place_at, global, head_of, thread_head}
@@ -21,7 +20,7 @@ use Rattle.c_check.specs.Faults.{asks}
 use Rattle.c_check.specs.Names.{is_main, FileNames, BodyNames}
 use Rattle.c_check.specs.Rules.{local_faults}
 use Rattle.c_check.specs.Bodies.{reading_of, sequence_faults}
-use Rattle.c_check.specs.Units.{Made, is_declared, is_defined, is_value, has_definition, agrees_with_definition, is_dropped, is_main_head, main_faults, value_faults, prototype_faults, function_faults, item_faults, items_faults, after_item, after_items, param_faults, params_faults, with_param, with_params, head_names, body_names, no_names}
+use Rattle.c_check.specs.Units.{Made, is_declared, is_defined, is_value, has_definition, agrees_with_definition, is_dropped, is_main_head, value_faults, prototype_faults, function_faults, item_faults, items_faults, after_item, after_items, param_faults, params_faults, with_param, with_params, head_names, body_names}
 use Rattle.places_law.proofs.Along.{Told, full, both, asks_told, Along, none, token, is, join, behind, past, tell_only, name, name_only}
 use Rattle.places_law.proofs.AlongStmts.{past_type, local_told, along_items}
 

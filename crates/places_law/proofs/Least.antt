@@ -1,15 +1,13 @@
 -- The first of faults that ascend is the least.
-use Rattle.std.proofs.Common.{◌≡◌, ◌≢◌, refl, ℕ, ◌≤◌, List, [], ◌∷◌, ◌++◌, append_assoc, subst, inl, inr, arith}
-use Rattle.std.specs.List.{AllByRecursion}
+use Rattle.std.proofs.Common.{◌≢◌, refl, List, [], ◌∷◌, ◌++◌, append_assoc, subst, inr, arith}
 use Rattle.std.proofs.lemmas.List.Elements.{All-from_recursion}
 use Rattle.c_parse.specs.Terminals.{terminals_of}
-use Rattle.c_parse.specs.declared.raw.unit.RawUnit.{RawUnit}
 use Rattle.c_check.specs.declared.fault.FrontFault.{FrontFault}
 use Rattle.c_check.specs.Faults.{IsFirst, first, no_memory, want_of_memory}
-use Rattle.c_check.specs.Front.{Reads, tree_faults, graph_faults}
+use Rattle.c_check.specs.Front.{graph_faults}
 use Rattle.c_check.specs.Units.{nothing_made, no_main_faults, limit_faults, unit_of}
 use Rattle.places_law.specs.Laws.{check_faults, FaultsAscend, FirstIsLeast}
-use Rattle.places_law.specs.Order.{rank, IsNoLater, Ascend, IsLeast}
+use Rattle.places_law.specs.Order.{IsNoLater, Ascend, IsLeast}
 use Rattle.places_law.proofs.Along.{ascend}
 use Rattle.places_law.proofs.AlongUnits.{along_unit}
 use Rattle.places_law.proofs.Tokens.{tokens_climb}
