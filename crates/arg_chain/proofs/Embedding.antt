@@ -1,5 +1,5 @@
 -- Walks over numbers from a context are the chains' calls.
-use Rattle.std.proofs.Common.{◌≡◌, ◌⊎◌, ◌↔◌, inl, inr, ℕ, ◌+◌, ◌<◌, ◌≤◌, List, [], ◌∷◌, ◌++◌, Option, None, Some, length, map, get_or, refl, sym, ap, subst, ◌∙◌, arith}
+use Rattle.std.proofs.Common.{◌≡◌, ℕ, ◌+◌, List, [], ◌∷◌, ◌++◌, Option, None, Some, length, refl, sym, ap, subst, ◌∙◌, arith}
 use Rattle.std.specs.Prelude.{Contains, IsSomeAnd, slice_get}
 use Rattle.std.proofs.lemmas.Option.{same_Some, slice_get_read, slice_get_within}
 use Rattle.arg_graph.specs.Following.{Offers, StackValue, top_frame, waiting_frame}
@@ -8,8 +8,8 @@ use Rattle.arg_graph.specs.declared.vertex.Label.TheVariants.{Enter}
 use Rattle.arg_graph.specs.declared.vertex.Step.{Step}
 use Rattle.arg_graph.specs.declared.vertex.Vertex.{Vertex}
 use Rattle.arg_chain.specs.declared.hop.Hop.{Hop}
-use Rattle.arg_chain.specs.Calls.{IsCallsOf, IsMember, frame_for, frames_of, hop_by, number_in}
-use Rattle.arg_chain.specs.Chains.{CallsTo, Enters, IsFellow}
+use Rattle.arg_chain.specs.Calls.{IsCallsOf, frame_for, frames_of, hop_by, number_in}
+use Rattle.arg_chain.specs.Chains.{CallsTo, Enters}
 use Rattle.arg_chain.specs.Walk.{Graph, IsWalk, steps_at}
 use Rattle.arg_chain.proofs.Numbering.{same_number}
 

@@ -1,9 +1,8 @@
 -- The least route over numbers is the least chain.
-use Rattle.std.proofs.Common.{◌≡◌, ◌⊎◌, ◌↔◌, inl, inr, ℕ, suc, ◌+◌, ◌<◌, ◌≤◌, nat_lt, true, cond, List, [], ◌∷◌, ◌++◌, Option, None, Some, length, map, refl, sym, ap, subst, ◌∙◌, arith}
+use Rattle.std.proofs.Common.{◌≡◌, ◌⊎◌, ◌↔◌, inl, inr, ℕ, ◌+◌, ◌<◌, nat_lt, true, List, [], ◌∷◌, Some, length, map, refl, sym, ap, subst, ◌∙◌, arith}
 use Rattle.std.specs.Prelude.{Contains, slice_get}
 use Rattle.std.specs.List.Sorted.{IsStrictlySortedBy}
 use Rattle.std.specs.Ordering.{nat_cmp}
-use Rattle.std.specs.declared.cmp.Ordering.{Ordering}
 use Rattle.std.specs.declared.cmp.Ordering.TheVariants.{Less}
 use Rattle.std.proofs.lemmas.Bool.{cases_lt}
 use Rattle.std.proofs.lemmas.Bool.Decides.{nat_tests}
@@ -11,8 +10,7 @@ use Rattle.std.proofs.lemmas.List.{length-map}
 use Rattle.std.proofs.lemmas.Option.{get_or_from_slice_get, same_Some, slice_get_within}
 use Rattle.gob_tree.specs.declared.graph.Program.{Program}
 use Rattle.constraint_sys.specs.Sound.{IsStarted}
-use Rattle.constraint_sys.specs.Table.{empty_key}
-use Rattle.arg_graph.specs.Following.{Offers, StackValue, top_frame, waiting_frame}
+use Rattle.arg_graph.specs.Following.{Offers, StackValue}
 use Rattle.arg_graph.specs.Graphs.{vertex_cmp}
 use Rattle.arg_graph.specs.Vertices.{start_in}
 use Rattle.arg_graph.specs.declared.stack.Frame.{Frame}
@@ -20,11 +18,11 @@ use Rattle.arg_graph.specs.declared.vertex.Step.{Step}
 use Rattle.arg_graph.specs.declared.vertex.Vertex.{Vertex}
 use Rattle.arg_chain.specs.declared.hop.Hop.{Hop}
 use Rattle.arg_chain.specs.Calls.{IsCallsOf, IsRootNumber, frames_of, number_in}
-use Rattle.arg_chain.specs.Chains.{BeginsRooted, CallsTo, IsChain, IsFellow, IsLeastChain, IsRooted, IsUpTo, edges_on, vertices_on}
+use Rattle.arg_chain.specs.Chains.{BeginsRooted, IsChain, IsLeastChain, IsRooted, IsUpTo, edges_on, vertices_on}
 use Rattle.arg_chain.specs.Least.{IsLeastRoute, IsRoute, edges_of, vertices_of, IsUpTo as IsNumbersUpTo}
 use Rattle.arg_chain.specs.Walk.{Graph, IsWalk, steps_at}
 use Rattle.arg_chain.proofs.Between.{one_place, rises}
-use Rattle.arg_chain.proofs.Embedding.{BeginsAt, IsCalled, IsWalkOf, calls_walk, frames_last, frames_more, no_walk, vertex_at_hop, walk_calls}
+use Rattle.arg_chain.proofs.Embedding.{BeginsAt, calls_walk, frames_last, frames_more, no_walk, vertex_at_hop, walk_calls}
 use Rattle.arg_chain.proofs.Numbering.{same_number}
 
 head_same : (x y : Vertex) (xs ys : List Vertex) → ◌≡◌ {A = List Vertex} (x ∷ xs) (y ∷ ys) → x ≡ y

@@ -1,5 +1,5 @@
 -- Rows that are made piece by piece are the calls of a graph.
-use Rattle.std.proofs.Common.{◌≡◌, ◌⊎◌, ◌↔◌, inl, inr, ℕ, zero, suc, ◌+◌, ◌<◌, ◌≤◌, List, [], ◌∷◌, Option, Some, length, get_or, refl, sym, subst, ◌∙◌, ap, arith}
+use Rattle.std.proofs.Common.{◌≡◌, inl, inr, ℕ, zero, suc, ◌+◌, ◌<◌, ◌≤◌, List, [], ◌∷◌, Some, length, refl, sym, subst, ◌∙◌, ap, arith}
 use Rattle.std.specs.Prelude.{Contains, slice_get}
 use Rattle.std.specs.List.{flat_map}
 use Rattle.std.proofs.lemmas.Bool.{cases_lt}
@@ -8,7 +8,7 @@ use Rattle.constraint_sys.proofs.Ordered.{Contains-nil}
 use Rattle.arg_graph.specs.Following.{Offers}
 use Rattle.arg_graph.specs.declared.vertex.Vertex.{Vertex}
 use Rattle.arg_chain.specs.declared.hop.Hop.{Hop}
-use Rattle.arg_chain.specs.Calls.{HasMore, IsCall, IsCallsOf, IsHopToMember, IsMember, IsNumbered, hop_by, hop_of, number_in}
+use Rattle.arg_chain.specs.Calls.{HasMore, IsCallsOf, IsHopToMember, IsMember, IsNumbered, hop_by, hop_of}
 use Rattle.arg_chain.specs.Walk.{Graph, IsGraph, steps_at}
 use Rattle.arg_chain.proofs.Rows.{calls_are, steps_past}
 

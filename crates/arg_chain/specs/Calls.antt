@@ -5,7 +5,6 @@
 -- A reader should check: that contexts have their numbers in the order of their vertices, and that a
 -- hop between them stands for nothing but Enter.
 use Rattle.std.specs.Prelude.{◌≡◌, ◌⊎◌, ◌↔◌, ◌≤◌, ◌<◌, ◌+◌, ◌^◌, ℕ, List, [], ◌∷◌, ◌++◌, Option, None, Some, length, slice_get, Contains}
-use Rattle.std.specs.Global.{Vec}
 use Rattle.std.specs.Map.{lookup}
 use Rattle.gob_tree.specs.declared.graph.Program.{Program}
 use Rattle.constraint_sys.specs.Sound.{IsStarted}

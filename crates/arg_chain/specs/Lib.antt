@@ -3,3 +3,4 @@ pub mod Least
 pub mod Choice
 pub mod Chains
 pub mod Calls
+pub mod Serving

@@ -43,6 +43,11 @@ HasStep g u w = LeadsTo (steps_at g u) w
 abbrev pub before_at : List (Vec ℕ) → ℕ → List ℕ
 before_at t w = items_of (slice_get t w)
 
+-- the turned graph has, for each vertex, just those from which a step leads to it
+pub record IsTurned (g : Graph) (before : List (Vec ℕ)) : Type 0 where
+  pub len : length before ≡ length g
+  pub members : (u w : ℕ) → Contains (before_at before w) u ↔ HasStep g u w
+
 -- u stands before one of the front
 abbrev pub IsBeforeOne : List (Vec ℕ) → List ℕ → ℕ → Type 0
 IsBeforeOne t front u = (w : ℕ) × Contains front w × Contains (before_at t w) u

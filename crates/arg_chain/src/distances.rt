@@ -1,33 +1,33 @@
 //! The fewest steps from each vertex to one.
 ghost use Rattle.std.specs.Prelude.{◌≡◌, ◌⊎◌, ◌↔◌, ◌<◌, ◌≤◌, ◌^◌, ◌+◌, ℕ, List, [], None, Some, IfOk, OnOk, Contains, length};
-ghost use Rattle.arg_chain.specs.Walk.{IsGraph, IsDistance, IsWalk, known_at, before_at, IsBeforeOne, Spreads};
+ghost use Rattle.arg_chain.specs.Walk.{IsTurned, IsDistance, IsWalk, known_at, before_at, IsBeforeOne, Spreads};
 ghost use Rattle.arg_chain.specs.declared.hop.Hop.{Hop as TheHop};
 
 use crate::hop::Hop;
-use crate::turned::turned;
 use gob_tree::Memory;
 use std::alloc::Global;
 
-/// For each vertex the fewest steps from it to a target; `None` exactly where no steps lead there.
+/// For each vertex the fewest steps from it to a target, over the turned graph too; `None` exactly where
+/// no steps lead there.
 pub(crate) fn distances(
     alloc: Global,
     graph: &[Vec<Hop>],
+    before: &[Vec<usize>],
     target: usize,
 ) -> Result<Vec<Option<usize>>, Memory>
-    requires graph { IsGraph graph.now }
+    requires turned { IsTurned graph.now before.now }
     requires target { target < length graph.now }
     ensures len { IfOk result (λ ds. length ds.items ≡ length graph.now) }
     ensures known { (u n : ℕ) → IfOk result (λ ds. known_at ds.items u ≡ Some n → IsDistance graph.now target u n) }
     ensures unknown { (u : ℕ) → IfOk result (λ ds. known_at ds.items u ≡ None → (ss : List TheHop) → IsWalk graph.now u ss target → ⊥) }
 {
-    let before = turned(alloc, graph)?;
     let mut known = vec![in alloc; None; graph.len()]?;
     let mut level: usize = 0;
     let mut front = Vec::new(alloc);
     reach(&mut known, &mut front, target, level)?;
     'levels: while !front.is_empty() {
         level += 1;
-        front = spread(alloc, &before, &mut known, &front, level)?;
+        front = spread(alloc, before, &mut known, &front, level)?;
     }
     Ok(known)
 }

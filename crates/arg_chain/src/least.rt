@@ -1,6 +1,6 @@
 //! The least of the shortest routes over numbered vertices.
 ghost use Rattle.std.specs.Prelude.{◌≡◌, ◌⊎◌, ◌↔◌, ◌<◌, ◌≤◌, ◌^◌, ◌+◌, ℕ, List, [], None, Some, true, IfOk, IfSome, IfNone, IsTrue, Contains, length};
-ghost use Rattle.arg_chain.specs.Walk.{IsGraph, known_at, steps_at};
+ghost use Rattle.arg_chain.specs.Walk.{IsGraph, IsTurned, known_at, steps_at};
 ghost use Rattle.arg_chain.specs.Least.{IsRoute, IsLeastRoute};
 ghost use Rattle.arg_chain.specs.Choice.{IsLeastOf, IsLeastStep, IsGreedy, CanStep, IsAtRoot, IsTarget, IsEdgeTo, least_with, least_known};
 ghost use Rattle.arg_chain.specs.declared.hop.Hop.{Hop as TheHop};
@@ -12,26 +12,28 @@ use std::alloc::Global;
 
 /// A route: a root, and the hops that lead from it.
 #[derive(Drop)]
-pub struct Route {
+pub(crate) struct Route {
     pub root: usize,
     pub steps: Vec<Hop>,
 }
 
-/// The least of the shortest routes from a root to a target; `None` exactly where there is none.
-/// `Memory` is want of memory.
-pub fn least_route(
+/// The least of the shortest routes from a root to a target, in a graph that is given turned too; `None`
+/// exactly where there is none. `Memory` is want of memory.
+pub(crate) fn least_route(
     alloc: Global,
     graph: &[Vec<Hop>],
+    before: &[Vec<usize>],
     roots: &[usize],
     target: usize,
 ) -> Result<Option<Route>, Memory>
     requires graph { IsGraph graph.now }
+    requires turned { IsTurned graph.now before.now }
     requires roots { (r : ℕ) → Contains roots.now r → r < length graph.now }
     requires target { target < length graph.now }
     ensures some { IfOk result (λ o. IfSome o (λ s. IsLeastRoute graph.now roots.now target s.root s.steps.items)) }
     ensures none { IfOk result (λ o. IfNone o ((root : ℕ) (steps : List TheHop) → IsRoute graph.now roots.now target root steps → ⊥)) }
 {
-    let known = distances(alloc, graph, target)?;
+    let known = distances(alloc, graph, before, target)?;
     match least_distance(roots, &known) {
         Some(n) => {
             let root = nearest(roots, &known, n);

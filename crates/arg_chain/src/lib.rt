@@ -5,12 +5,10 @@
 mod calls;
 mod distances;
 mod hop;
+mod hops;
 mod least;
-mod shortest;
-#[cfg(test)]
-mod tests;
+mod roots;
+mod stacking;
 mod turned;
 
-pub use hop::Hop;
-pub use least::{Route, least_route};
-pub use shortest::chain;
+pub use calls::{Calls, chain};

@@ -1,6 +1,6 @@
 //! Where the steps of a graph come from.
 ghost use Rattle.std.specs.Prelude.{◌≡◌, ◌⊎◌, ◌↔◌, ◌<◌, ◌≤◌, ◌^◌, ℕ, IfOk, OnOk, Contains, length};
-ghost use Rattle.arg_chain.specs.Walk.{IsGraph, steps_at, before_at, LeadsTo, HasStep};
+ghost use Rattle.arg_chain.specs.Walk.{IsGraph, IsTurned, before_at, LeadsTo};
 
 use crate::hop::Hop;
 use gob_tree::Memory;
@@ -9,8 +9,7 @@ use std::alloc::Global;
 /// For each vertex those from which a step leads to it.
 pub(crate) fn turned(alloc: Global, graph: &[Vec<Hop>]) -> Result<Vec<Vec<usize>>, Memory>
     requires graph { IsGraph graph.now }
-    ensures len { IfOk result (λ t. length t.items ≡ length graph.now) }
-    ensures members { (u w : ℕ) → IfOk result (λ t. Contains (before_at t.items w) u ↔ HasStep graph.now u w) }
+    ensures { IfOk result (λ t. IsTurned graph.now t.items) }
 {
     let mut rows = no_rows(alloc, graph.len())?;
     for (u, steps) in graph.iter().enumerate() {

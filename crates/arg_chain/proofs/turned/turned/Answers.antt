@@ -28,5 +28,8 @@ loop-u-preserved c =
       members = λ u w. turned_more g c.loop-u.u c.deref.result.now row u w (c.in_ok-add_each.ensures.members w u) (c.loop-u.invariant.members u w);
     }
 
-pub returns-clause-members : goal.returns-clause-members
-returns-clause-members c = λ u w. turned_all c.args.graph.now c.loop-u.u c.loop-u-test.false u w (c.loop-u.invariant.members u w)
+pub returns : goal.returns
+returns c = record {
+  len = c.loop-u.invariant.len;
+  members = λ u w. turned_all c.args.graph.now c.loop-u.u c.loop-u-test.false u w (c.loop-u.invariant.members u w);
+}
