@@ -5,6 +5,7 @@
 mod budget;
 mod job;
 mod law;
+mod loops;
 mod noted;
 mod order;
 mod run;

@@ -2,17 +2,22 @@
 //! promised of it: it only makes few turns do.
 ghost use Rattle.std.specs.Prelude.{◌≡◌, [], Contains, IfSome, None};
 
+use crate::loops::{Spot, number_at, spots_of};
 use constraint_sys::{Dirty, Key, System, Table, Unknown};
 use gob_tree::{Action, Edge, FuncGraph, Memory, Program};
 use std::alloc::Global;
 use std::collections::BinaryHeap;
 
 /// Where a point stands in the order: the greatest is taken first. Callees stand above their callers,
-/// and in a function what a loop repeats above what stands behind it, with the loop's head on top.
+/// and in a function what an outermost loop repeats above what stands behind it, with the loop's head
+/// on top.
 #[derive(Clone, Copy, Debug, PartialEq, Eq, PartialOrd, Ord)]
 struct Place {
     layer: u16,
     context: Key,
+    outermost: u16,
+    /// Below the greatest number by as many loops as the point is put off for.
+    nearness: u16,
     rank: u16,
     point: Unknown,
 }
@@ -22,7 +27,7 @@ struct Place {
 #[derive(Drop)]
 pub(crate) struct Order {
     numbers: Vec<u16>,
-    ranks: Vec<Vec<u16>>,
+    spots: Vec<Vec<Spot>>,
     waiting: BinaryHeap<Place>,
 }
 
@@ -31,15 +36,16 @@ impl Order {
     /// look at each edge.
     pub(crate) fn of(alloc: Global, program: &Program, system: &System) -> Result<Order, Memory> {
         let numbers = numbers_of(alloc, program)?;
-        let mut ranks = Vec::new(alloc);
+        let mut spots = Vec::new(alloc);
         let mut func = 0_u16;
         for function in program.funcs.as_slice() {
-            ranks.push(ranks_of(alloc, function, system, func)?)?;
+            let ranks = ranks_of(alloc, function, system, func)?;
+            spots.push(spots_of(alloc, function.edges.as_slice(), ranks.as_slice())?)?;
             func = func.saturating_add(1);
         }
         Ok(Order {
             numbers,
-            ranks,
+            spots,
             waiting: BinaryHeap::new(alloc),
         })
     }
@@ -49,10 +55,15 @@ impl Order {
         let Unknown::Point { func, key, node } = u else {
             return;
         };
+        let Some(spot) = spot_at(self.spots.as_slice(), *func, *node) else {
+            return;
+        };
         let _noted = self.waiting.push(Place {
             layer: u16::MAX - number_at(self.numbers.as_slice(), *func),
             context: *key,
-            rank: rank_at(self.ranks.as_slice(), *func, *node),
+            outermost: spot.outermost,
+            nearness: u16::MAX - put_off(self.spots.as_slice(), *func, &spot),
+            rank: spot.rank,
             point: *u,
         });
     }
@@ -84,10 +95,23 @@ impl Order {
                 break;
             };
             if dirty.contains(&u) {
+                self.count(&u);
                 return Some(u);
             }
         }
         dirty.first()
+    }
+
+    /// Counts that a point is taken.
+    fn count(&mut self, u: &Unknown) {
+        let Unknown::Point { func, node, .. } = u else {
+            return;
+        };
+        if let Some(of_func) = self.spots.get_mut(*func as usize) {
+            if let Some(spot) = of_func.get_mut(*node as usize) {
+                spot.taken = spot.taken.saturating_add(1);
+            }
+        }
     }
 
     /// Takes the first of the points that wait.
@@ -99,16 +123,21 @@ impl Order {
     }
 }
 
-fn number_at(numbers: &[u16], i: u16) -> u16 {
-    match numbers.get(i as usize) {
-        Some(n) => *n,
-        None => 0,
+fn spot_at(spots: &[Vec<Spot>], func: u16, node: u16) -> Option<Spot> {
+    match spots.get(func as usize) {
+        Some(of_func) => of_func.get(node as usize).copied(),
+        None => None,
     }
 }
 
-fn rank_at(ranks: &[Vec<u16>], func: u16, node: u16) -> u16 {
-    match ranks.get(func as usize) {
-        Some(of_func) => number_at(of_func.as_slice(), node),
+/// For how many loops a node is put off: for all around it once the loop around its innermost one has
+/// come to its second round, else for none.
+fn put_off(spots: &[Vec<Spot>], func: u16, spot: &Spot) -> u16 {
+    match spot.around {
+        Some(head) => match spot_at(spots, func, head) {
+            Some(of_head) if of_head.taken > 1 => spot.depth,
+            _ => 0,
+        },
         None => 0,
     }
 }
