@@ -1,0 +1,7 @@
+pub mod Callers
+pub mod Choosing
+pub mod Edges
+pub mod Going
+pub mod Keeping
+pub mod MainStart
+pub mod Marks

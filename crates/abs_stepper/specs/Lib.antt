@@ -1,0 +1,4 @@
+pub mod Positions
+pub mod Statements
+pub mod Stepping
+pub mod Ways
