@@ -1,0 +1,6 @@
+pub mod Carry
+pub mod Closed
+pub mod Linked
+pub mod Marked
+pub mod Matched
+pub mod Seeds
