@@ -277,7 +277,7 @@ item_rows =
     ∷ (int_g ∷ long_f ∷ prototype f 45 Int W64 (record { width = W64; name = None } ∷ []) ∷ bare_main ∷ [], fault_at WrongKind (at 45) ∷ [])
     ∷ (int_g ∷ prototype g 45 Int W32 [] ∷ bare_main ∷ [], fault_at Undeclared (at 45) ∷ fault_at Redeclared (at 45) ∷ [])
     ∷ (prototype nondet 45 Void W64 [] ∷ bare_main ∷ [], [])
-    ∷ (prototype nondet 45 Int W32 (int_param x 46 ∷ []) ∷ bare_main ∷ [], fault_at Undeclared (at 45) ∷ [])
+    ∷ (prototype nondet 45 Int W32 (int_param x 46 ∷ []) ∷ bare_main ∷ [], fault_at Undeclared (at 45) ∷ fault_at Redeclared (at 45) ∷ [])
     ∷ (items.Mutex (x_at nondet 45) ∷ bare_main ∷ [], fault_at Redeclared (at 45) ∷ [])
     ∷ (items.Mutex (x_at main 45) ∷ bare_main ∷ [], fault_at WrongKind (at 45) ∷ fault_at Redeclared (at 60) ∷ [])
     ∷ (function (head main 60 Int W64 []) [] ∷ [], fault_at WrongKind (at 60) ∷ [])
