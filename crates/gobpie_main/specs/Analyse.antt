@@ -19,7 +19,7 @@ use Rattle.gobpie_main.specs.Lines.{memory_line, read_fault_line, refused_line, 
 use Rattle.gobpie_main.specs.Loading.{IsRefusedBy}
 use Rattle.gobpie_main.specs.Outside.{AsksFor, Outside, Said, SinkNow, TellsText, Wrote}
 use Rattle.gobpie_main.specs.declared.status.Status.{Status}
-use Rattle.gobpie_main.specs.declared.status.Status.TheVariants.{Ok, Usage, ReadFault, WriteFault, SourceRefused, Spent, Memory}
+use Rattle.gobpie_main.specs.declared.status.Status.TheVariants.{Ok, Usage, ReadFault, WriteFault, SourceRefused, Spent, Memory, ScriptRefused}
 
 -- whatever the schedule and the inputs, the table shows each moment of each run of the source's text
 abbrev pub ShowsRuns : Source → TableValue → Type 0
@@ -50,6 +50,7 @@ pub record IsOfSource (status : Status) : Type 0 where
   pub not_usage : status ≢ Usage
   pub not_read_fault : status ≢ ReadFault
   pub not_refused : status ≢ SourceRefused
+  pub not_script : status ≢ ScriptRefused
 
 -- the text has a source, of whose program the bytes print the solved table
 abbrev pub TextCompletes : List ℕ → ℕ → List ℕ → Type 0
@@ -73,6 +74,7 @@ pub record AnswersText (text : List ℕ) (budget : ℕ) (status : Status) (befor
 -- what the sink got.
 pub record AnswersAnalyse (file : List ℕ) (budget : ℕ) (status : Status) (before after : Outside) : Type 0 where
   pub not_usage : status ≢ Usage
+  pub not_script : status ≢ ScriptRefused
   pub read_fault : status ≡ ReadFault → Rose (before.read_faults file) (after.read_faults file)
   pub read_fault_said : status ≡ ReadFault → Said before.sink after.sink read_fault_line
   pub asks : AsksFor file before after

@@ -1,11 +1,12 @@
 -- What the top call answers at words.
 use Rattle.std.specs.Prelude.{◌≡◌, ◌≢◌, ◌↔◌, ℕ, List, Option, Some, None}
 use Rattle.command_words.specs.Reading.{Word}
-use Rattle.command_words.specs.declared.line.CommandLine.TheVariants.{Analyse}
+use Rattle.command_words.specs.declared.line.CommandLine.TheVariants.{Analyse, Run}
 use Rattle.gobpie_main.specs.Analyse.{AnswersAnalyse}
 use Rattle.gobpie_main.specs.Command.{command_of}
 use Rattle.gobpie_main.specs.Lines.{memory_line, usage_line}
 use Rattle.gobpie_main.specs.Outside.{Outside, Said, SameFiles}
+use Rattle.gobpie_main.specs.Run.{AnswersRun}
 use Rattle.gobpie_main.specs.declared.status.Status.{Status}
 use Rattle.gobpie_main.specs.declared.status.Status.TheVariants.{Usage, Memory}
 
@@ -15,4 +16,5 @@ pub record AnswersWords (words : List Word) (status : Status) (before after : Ou
   pub usage_said : status ≡ Usage → Said before.sink after.sink usage_line
   pub untouched : command_of words ≡ None → SameFiles before after
   pub analyse : (file : Word) (budget : ℕ) → command_of words ≡ Some (Analyse file budget) → AnswersAnalyse file budget status before after
+  pub run : (file schedule : Word) → command_of words ≡ Some (Run file schedule) → AnswersRun file schedule status before after
   pub memory_said : status ≡ Memory → Said before.sink after.sink memory_line

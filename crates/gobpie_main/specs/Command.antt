@@ -8,7 +8,7 @@ use Rattle.command_words.specs.declared.line.CommandLine.TheVariants.{Analyse, R
 -- the commands that are built
 abbrev pub is_built : CommandLine → Bool
 is_built (Analyse file budget) = true
-is_built (Run file schedule) = false
+is_built (Run file schedule) = true
 is_built (Replay script) = false
 is_built (Load seed functions) = false
 is_built (Debug file budget) = false

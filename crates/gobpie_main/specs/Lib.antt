@@ -7,3 +7,4 @@ pub mod Loading
 pub mod Numbers
 pub mod Outside
 pub mod Reports
+pub mod Run

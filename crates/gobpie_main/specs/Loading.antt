@@ -1,5 +1,8 @@
--- What comes of the text of a file: its source, or why it has none.
-use Rattle.std.specs.Prelude.{◌≡◌, ◌≢◌, ℕ, List}
+-- What comes of a file: its bytes, and of these its source, or why it has none.
+use Rattle.std.specs.Prelude.{◌≡◌, ◌≢◌, ◌<◌, ℕ, List, length, Result, Ok as Good, Err as Bad}
+use Rattle.std.specs.Global.{Vec}
+use Rattle.gob_outside.specs.declared.files.FileFail.{FileFail}
+use Rattle.gob_outside.specs.declared.files.FileFail.TheVariants.{Failed, TooLong, Memory as NoMemory}
 use Rattle.gob_tree.specs.Formed.{IsFormed}
 use Rattle.gob_tree.specs.WellMade.{IsWellMade}
 use Rattle.c_meaning.specs.Graph.{program_of}
@@ -9,7 +12,21 @@ use Rattle.c_check.specs.Front.{IsFirstOf}
 use Rattle.c_check.specs.declared.fault.FrontFault.{FrontFault}
 use Rattle.c_check.specs.declared.fault.FrontKind.TheVariants.{Memory as WantOfMemory}
 use Rattle.gobpie_main.specs.declared.status.Status.{Status}
-use Rattle.gobpie_main.specs.declared.status.Status.TheVariants.{Ok, Usage, WriteFault, Spent}
+use Rattle.gobpie_main.specs.declared.status.Status.TheVariants.{Ok, Usage, WriteFault, Spent, ScriptRefused}
+
+-- what a load of at most so many bytes gave, where the files tell this text
+abbrev pub IsLoadOf : ℕ → Result (Vec ℕ) FileFail → List ℕ → Type 0
+IsLoadOf limit (Good bytes) text = bytes.items ≡ text
+IsLoadOf limit (Bad Failed) text = Unit {0}
+IsLoadOf limit (Bad (TooLong most)) text = limit < length text
+IsLoadOf limit (Bad NoMemory) text = Unit {0}
+
+-- what a load gave, where the files tell that there is no such file
+abbrev pub IsLoadOfNone : Result (Vec ℕ) FileFail → Type 0
+IsLoadOfNone (Good bytes) = ⊥
+IsLoadOfNone (Bad Failed) = Unit {0}
+IsLoadOfNone (Bad (TooLong most)) = ⊥
+IsLoadOfNone (Bad NoMemory) = Unit {0}
 
 -- the first fault of the text, other than want of memory; a text over its limit has one too
 pub record IsRefusedBy (text : List ℕ) (fault : FrontFault) : Type 0 where
@@ -22,6 +39,7 @@ pub record IsWithoutSource (status : Status) : Type 0 where
   pub not_usage : status ≢ Usage
   pub not_write_fault : status ≢ WriteFault
   pub not_spent : status ≢ Spent
+  pub not_script : status ≢ ScriptRefused
 
 -- What an analysis asks of a source: a well-made unit within the sizes, and that unit's own program.
 pub record IsAnalysable (source : Source) : Type 0 where

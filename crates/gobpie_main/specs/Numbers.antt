@@ -1,7 +1,7 @@
 -- The exit status of each answer.
 use Rattle.std.specs.Prelude.{ℕ}
 use Rattle.gobpie_main.specs.declared.status.Status.{Status}
-use Rattle.gobpie_main.specs.declared.status.Status.TheVariants.{Ok, Usage, ReadFault, WriteFault, SourceRefused, Spent, Memory}
+use Rattle.gobpie_main.specs.declared.status.Status.TheVariants.{Ok, Usage, ReadFault, WriteFault, SourceRefused, Spent, Memory, ScriptRefused}
 
 abbrev pub number_of : Status → ℕ
 number_of Ok = 0
@@ -11,3 +11,4 @@ number_of WriteFault = 4
 number_of SourceRefused = 5
 number_of Spent = 7
 number_of Memory = 9
+number_of ScriptRefused = 11

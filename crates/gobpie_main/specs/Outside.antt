@@ -50,3 +50,13 @@ Says written faults before after bytes = Said (sink_now written faults before) (
 abbrev pub TellsText : Option (List ℕ → Option (List ℕ)) → List ℕ → List ℕ → Type 0
 TellsText None file text = ⊥
 TellsText (Some contents) file text = contents file ≡ Some text
+
+-- the files tell that there is no file of a name
+abbrev pub TellsNone : Option (List ℕ → Option (List ℕ)) → List ℕ → Type 0
+TellsNone None file = ⊥
+TellsNone (Some contents) file = contents file ≡ None
+
+-- no files but these two were asked for, nor did a load of another fail
+pub record AsksForBoth (file schedule : List ℕ) (before after : Outside) : Type 0 where
+  pub others : (other : List ℕ) → other ≢ file → other ≢ schedule → after.read_faults other ≡ before.read_faults other
+  pub asked : (between : Option (List (List ℕ))) × Asks before.asked file between × Asks between schedule after.asked

@@ -9,6 +9,7 @@ mod edge;
 mod lines;
 mod loading;
 mod report;
+mod run;
 mod status;
 mod words;
 

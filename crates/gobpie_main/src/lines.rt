@@ -2,6 +2,7 @@
 ghost use Rattle.std.specs.Prelude.{◌≡◌, IfOk};
 ghost use Rattle.gobpie_main.specs.Lines.{kind_text, memory_line, refused_line, spent_line};
 ghost use Rattle.gobpie_main.specs.Outside.{Says};
+ghost use Rattle.gobpie_main.specs.Run.{script_line};
 
 use crate::status::Status;
 use c_check::{FrontFault, FrontKind};
@@ -35,6 +36,17 @@ pub fn spent_line(alloc: Global, budget: u64) -> Result<Vec<u8>, Memory>
     let mut line = Vec::from_slice(alloc, b"spent ")?;
     let mut buffer = itoa::Buffer::new();
     line.extend_from_slice(buffer.format(budget).as_bytes())?;
+    line.extend_from_slice(b"\n")?;
+    Ok(line)
+}
+
+/// The line of the first bad line of a schedule. `Memory` is want of memory.
+pub fn script_line(alloc: Global, number: u64) -> Result<Vec<u8>, Memory>
+    ensures { IfOk result (λ line. line.items ≡ script_line number) }
+{
+    let mut line = Vec::from_slice(alloc, b"script ")?;
+    let mut buffer = itoa::Buffer::new();
+    line.extend_from_slice(buffer.format(number).as_bytes())?;
     line.extend_from_slice(b"\n")?;
     Ok(line)
 }

@@ -17,10 +17,12 @@ pub enum Status {
     Spent,
     /// Want of memory.
     Memory,
+    /// A line of the schedule is bad, or the schedule is too long.
+    ScriptRefused,
 }
 
 impl Status {
-    /// The exit status: 0, 2, 3, 4, 5, 7 or 9.
+    /// The exit status: 0, 2, 3, 4, 5, 7, 9 or 11.
     pub fn number(self) -> u8
         ensures { result ≡ number_of self }
     {
@@ -32,6 +34,7 @@ impl Status {
             Status::SourceRefused => 5,
             Status::Spent => 7,
             Status::Memory => 9,
+            Status::ScriptRefused => 11,
         }
     }
 }

@@ -29,9 +29,8 @@ fn is_built(line: &CommandLine) -> bool
     ensures { result ≡ is_built line.now }
 {
     match line {
-        CommandLine::Analyse { .. } => true,
-        CommandLine::Run { .. }
-        | CommandLine::Replay { .. }
+        CommandLine::Analyse { .. } | CommandLine::Run { .. } => true,
+        CommandLine::Replay { .. }
         | CommandLine::Load { .. }
         | CommandLine::Debug { .. }
         | CommandLine::Serve { .. } => false,
