@@ -1,6 +1,6 @@
 -- Steps keep positions: some thread is left, ids differ, and all tops stand at one node.
 use Rattle.std.proofs.Common.{◌≡◌, ◌<◌, ◌-◌, ◌++◌, inl, inr, ℕ, nat_eq, ◌&&◌, Bool, true, false, cond, true≢false, List, [], ◌∷◌, Option, None, Some, length, take, refl, sym, ap, subst, ◌∙◌, append_assoc, arith}
-use Rattle.std.specs.Prelude.{Contains, IsSome, IsSomeAnd, filter_map, is_none, is_some}
+use Rattle.std.specs.Prelude.{Contains, IsSome, IsSomeAnd, filter_map}
 use Rattle.std.specs.List.{AllByRecursion, IsDistinct, cons_option}
 use Rattle.std.specs.Option.{option_eq, option_map}
 use Rattle.std.proofs.lemmas.Bool.Decides.{nat_tests}
@@ -314,7 +314,3 @@ module _ (p : Program) (t : TableValue) (g : Graph) (is : IsGraphOf p t g) where
       let both = together_returned named t.stack new.0 u.stack parts.0 new.1 parts.1 in
       let top : both.0 ≡ first.1 = same_vertex new.0 both.0 first.1 both.2 first.4 in
       (both.1, both.3, both.4 ∙ ap (λ (v : Vertex). v.func) top, both.5 ∙ ap (λ (v : Vertex). v.node) top))
-
-pub some_if_not_none : (o : Option StackValue) → is_none o ≡ false → is_some o ≡ true
-some_if_not_none None not = absurd (true≢false not)
-some_if_not_none (Some s) not = refl

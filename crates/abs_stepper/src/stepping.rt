@@ -111,8 +111,7 @@ pub fn out(alloc: Global, at: &Position, graph: &Graph, thread: u32) -> Result<P
     if returned(alloc, graph, named)?.is_none() {
         return Err(StepFault::NotOffered);
     }
-    let threads = all_returned(alloc, graph, named, at.threads())?;
-    Ok(Position::of(threads))
+    Ok(returned_together(alloc, at, graph, named)?)
 }
 
 /// The position after a step that is offered to the thread with this stack.
@@ -129,6 +128,22 @@ pub(crate) fn moved_together(
     ensures { IfOk result (λ new. new ≡ filter_map (moved_along (offered_in graph.now) label named.now) at.now) }
 {
     let threads = all_moved(alloc, graph, label, named, at.threads())?;
+    Ok(Position::of(threads))
+}
+
+/// The position after the thread with this stack, which can step out, has done so.
+fn returned_together(
+    alloc: Global,
+    at: &Position,
+    graph: &Graph,
+    named: &[Frame],
+) -> Result<Position, Memory>
+    requires graph { (p : TheProgram) × (t : TableValue) × IsGraphOf p t graph.now }
+    requires named { (id : ℕ) × (stack_of at.now id ≡ Some named.now) }
+    requires offered { IsSome (returned (offered_in graph.now) named.now) }
+    ensures { IfOk result (λ new. new ≡ filter_map (returned_along (offered_in graph.now) named.now) at.now) }
+{
+    let threads = all_returned(alloc, graph, named, at.threads())?;
     Ok(Position::of(threads))
 }
 
