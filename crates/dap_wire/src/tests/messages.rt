@@ -15,7 +15,7 @@ fn is_written(rt: &HostRuntime, message: &Message, bytes: &str) -> bool
     write_message(rt.alloc(), message).is_ok_and(|written| written.as_slice() == bytes.as_bytes())
 }
 
-/// Whether the response 7 to a request 5 has this body.
+/// Whether a response, its own number being seven and that of its request five, has this body.
 fn is_body(rt: &HostRuntime, body: ReplyBody, bytes: &str) -> Result<bool, Fail>
     requires { IsBodyText body }
 {

@@ -2,7 +2,7 @@ use crate::{WireFault, read_request};
 use std::alloc::AllocError;
 use std::test::Fail;
 
-/// The content of the request 3 for a command with these arguments.
+/// The content of a request, numbered three, for a command with these arguments.
 fn content(rt: &HostRuntime, command: &str, arguments: &str) -> Result<String, AllocError> {
     format!(in rt.alloc();
         "{{\"seq\":3,\"type\":\"request\",\"command\":\"{command}\",\"arguments\":{arguments}}}"
