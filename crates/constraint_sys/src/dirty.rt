@@ -63,7 +63,7 @@ impl Dirty {
     }
 
     /// Adds points; `Memory` is want of memory, and leaves the set as it was.
-    pub(crate) fn add(&mut self, alloc: Global, more: &[Unknown]) -> Result<(), Memory>
+    pub fn add(&mut self, alloc: Global, more: &[Unknown]) -> Result<(), Memory>
         ensures ok { (q : TheUnknown) → OnOk result (Contains self.new q ↔ (Contains self.old q ⊎ Contains more.now q)) }
         ensures err { OnErr result (self.new ≡ self.old) }
         ensures ascending { IsAscending self.new }
