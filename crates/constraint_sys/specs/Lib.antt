@@ -1,5 +1,6 @@
 pub mod Arising
 pub mod Breach
+pub mod Carry
 pub mod Contribution
 pub mod Index
 pub mod PostSolution

@@ -15,7 +15,7 @@ use Rattle.constraint_sys.specs.declared.unknown.Unknown.TheVariants.{Point, Glo
 use Rattle.constraint_sys.specs.declared.value.Effect.{Effect}
 use Rattle.constraint_sys.specs.declared.value.Value.{Value}
 use Rattle.constraint_sys.specs.declared.value.Value.TheVariants.{State, Number}
-use Rattle.destabilise.specs.Carry.{Affects, targets_of}
+use Rattle.constraint_sys.specs.Carry.{Affects, targets_of}
 use Rattle.constraint_sys.specs.Contribution.{Reads, contribution_at, read_by}
 use Rattle.constraint_sys.specs.PostSolution.{BoundsAt, CoversValue, IsPostSolution}
 use Rattle.constraint_sys.specs.Sound.{CanTurn}

@@ -9,7 +9,7 @@ use Rattle.gob_tree.specs.Named.{NamedGraph, SameFunction, named_graph}
 use Rattle.gob_tree.specs.declared.graph.FuncGraph.{FuncGraph}
 use Rattle.gob_tree.specs.declared.graph.Program.{Program}
 use Rattle.gob_tree.specs.declared.unit.GlobalDecl.{GlobalDecl}
-use Rattle.destabilise.specs.Carry.{SameGlobal, SameMutex}
+use Rattle.constraint_sys.specs.Carry.{SameGlobal, SameMutex}
 use Rattle.destabilise.specs.declared.kind.Kind.{Kind}
 use Rattle.destabilise.specs.declared.kind.Kind.TheVariants.{Function, Global, Mutex}
 use Rattle.destabilise.specs.Matched.{AreMatches, IsSame, count_of}

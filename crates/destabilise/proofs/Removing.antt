@@ -10,7 +10,7 @@ use Rattle.constraint_sys.specs.declared.unknown.Unknown.{Unknown}
 use Rattle.constraint_sys.specs.declared.unknown.Unknown.TheVariants.{Point, Global}
 use Rattle.constraint_sys.specs.declared.value.Value.{Value}
 use Rattle.constraint_sys.specs.declared.value.Value.TheVariants.{State, Number}
-use Rattle.destabilise.specs.Carry.{Affects, HoldsLostMutex, IsLostFunction, IsReachedFromMain, IsRemoved, main_itself, node_of_start, started, lost_function, lost_global, lost_mutex_in_context, lost_mutex_in_state, unreached_start, reader, affected, node_of_removed}
+use Rattle.constraint_sys.specs.Carry.{Affects, HoldsLostMutex, IsLostFunction, IsReachedFromMain, IsRemoved, main_itself, node_of_start, started, lost_function, lost_global, lost_mutex_in_context, lost_mutex_in_state, unreached_start, reader, affected, node_of_removed}
 use Rattle.constraint_sys.specs.Contribution.{Reads}
 use Rattle.constraint_sys.specs.Sound.{IsShaped, IsShapedEntry}
 use Rattle.constraint_sys.specs.Table.{TableValue, IsThere, main_start, nodes_at, nodes_of_function, value_at}

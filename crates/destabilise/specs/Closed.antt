@@ -2,7 +2,7 @@
 use Rattle.std.specs.Prelude.{◌≡◌, ◌⊎◌, ℕ, Bool, Some, IsTrue}
 use Rattle.gob_tree.specs.declared.graph.Program.{Program}
 use Rattle.state_dom.specs.StateValue.{StateValue, locks_of}
-use Rattle.destabilise.specs.Carry.{Affects, HoldsLostMutex, IsLostFunction, IsLostGlobal, IsReachedFromMain}
+use Rattle.constraint_sys.specs.Carry.{Affects, HoldsLostMutex, IsLostFunction, IsLostGlobal, IsReachedFromMain}
 use Rattle.constraint_sys.specs.Contribution.{Reads}
 use Rattle.constraint_sys.specs.Table.{TableValue, value_at, IsThere}
 use Rattle.constraint_sys.specs.declared.unknown.Key.{Key}

@@ -1,4 +1,3 @@
-pub mod Carry
 pub mod Closed
 pub mod Linked
 pub mod Marked

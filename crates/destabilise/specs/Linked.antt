@@ -4,7 +4,7 @@ use Rattle.std.specs.Prelude.{◌≡◌, ◌↔◌, ◌⊎◌, ℕ, zero, suc, �
 use Rattle.std.specs.Map.{lookup}
 use Rattle.indexmap.specs.IndexMap.{insert_entry}
 use Rattle.gob_tree.specs.declared.graph.Program.{Program}
-use Rattle.destabilise.specs.Carry.{Affects}
+use Rattle.constraint_sys.specs.Carry.{Affects}
 use Rattle.constraint_sys.specs.Contribution.{Reads}
 use Rattle.constraint_sys.specs.Table.{TableValue, IsThere, nodes_at, unknown_eq}
 use Rattle.constraint_sys.specs.declared.unknown.Key.{Key}

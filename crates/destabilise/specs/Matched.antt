@@ -2,7 +2,7 @@
 use Rattle.std.specs.Prelude.{◌≡◌, ◌↔◌, ℕ, List, Option, Some, length, slice_get}
 use Rattle.gob_tree.specs.Named.{SameFunction}
 use Rattle.gob_tree.specs.declared.graph.Program.{Program}
-use Rattle.destabilise.specs.Carry.{SameGlobal, SameMutex}
+use Rattle.constraint_sys.specs.Carry.{SameGlobal, SameMutex}
 use Rattle.destabilise.specs.declared.kind.Kind.{Kind}
 use Rattle.destabilise.specs.declared.kind.Kind.TheVariants.{Function, Global, Mutex}
 use Rattle.destabilise.specs.declared.matching.Matching.{Matching}

@@ -2,7 +2,7 @@
 //! nodes of a start.
 ghost use Rattle.std.specs.Prelude.{◌≡◌, ◌↔◌, ◌⊎◌, ◌<◌, ℕ, IfOk, IsTrue, Contains, OnOk, length, map};
 ghost use Rattle.gob_tree.specs.Formed.{IsFormed};
-ghost use Rattle.destabilise.specs.Carry.{targets_of};
+ghost use Rattle.constraint_sys.specs.Carry.{targets_of};
 ghost use Rattle.constraint_sys.specs.Contribution.{read_by};
 ghost use Rattle.constraint_sys.specs.Index.{IsSystemOf};
 ghost use Rattle.constraint_sys.specs.Sound.{IsShaped};

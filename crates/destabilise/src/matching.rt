@@ -1,7 +1,7 @@
 //! What of an old program is in a new one too.
 ghost use Rattle.std.specs.Prelude.{◌≡◌, ◌↔◌, ℕ, IfOk, IsTrue, Some, length};
 ghost use Rattle.gob_tree.specs.Formed.{IsFormed};
-ghost use Rattle.destabilise.specs.Carry.{SameGlobal, SameMutex};
+ghost use Rattle.constraint_sys.specs.Carry.{SameGlobal, SameMutex};
 ghost use Rattle.destabilise.specs.Matched.{AreMatches, IsMatching, IsSame, count_of};
 
 use crate::kind::Kind;

@@ -2,7 +2,7 @@
 ghost use Rattle.std.specs.Prelude.{◌↔◌, IfOk, IsTrue, Bool};
 ghost use Rattle.gob_tree.specs.Formed.{IsFormed};
 ghost use Rattle.gob_tree.specs.declared.graph.Program.{Program as TheProgram};
-ghost use Rattle.destabilise.specs.Carry.{IsReachedFromMain, IsRemoved};
+ghost use Rattle.constraint_sys.specs.Carry.{IsReachedFromMain, IsRemoved};
 ghost use Rattle.constraint_sys.specs.PostSolution.{IsPostSolution};
 ghost use Rattle.constraint_sys.specs.Sound.{IsShaped};
 ghost use Rattle.constraint_sys.specs.Table.{TableValue};

@@ -3,7 +3,7 @@ use Rattle.constraint_sys.specs.declared.unknown.Unknown.{Unknown}
 use Rattle.constraint_sys.specs.Contribution.{read_by}
 use Rattle.constraint_sys.specs.Table.{unknown_eq}
 use Rattle.dep_index.specs.Noted.{reads_of}
-use Rattle.destabilise.specs.Carry.{targets_of}
+use Rattle.constraint_sys.specs.Carry.{targets_of}
 use Rattle.destabilise.specs.Linked.{Targets, targets_at}
 use Rattle.destabilise.proofs.Linking.{all_affected, all_read, item_there, noted_more, targets_put}
 use Rattle.destabilise.proofs.links.Links.of.Goals as goal

@@ -1,7 +1,7 @@
 use Rattle.std.proofs.Common.{◌↔◌, take}
 use Rattle.std.specs.Prelude.{Contains}
 use Rattle.constraint_sys.specs.declared.unknown.Unknown.{Unknown}
-use Rattle.destabilise.specs.Carry.{targets_of}
+use Rattle.constraint_sys.specs.Carry.{targets_of}
 use Rattle.constraint_sys.specs.Contribution.{read_by}
 use Rattle.dep_index.specs.Noted.{reads_of}
 use Rattle.destabilise.specs.Linked.{targets_at}
