@@ -20,6 +20,7 @@ pub mod SpelledStmts
 pub mod SpelledTokens
 pub mod SpelledUnits
 pub mod StmtForms
+pub mod Tables
 pub mod WellMade
 pub mod WellMadeBodies
 pub mod WellMadeExprs

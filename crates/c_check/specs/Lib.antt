@@ -7,4 +7,5 @@ pub mod Names
 pub mod Rules
 pub mod Spelled
 pub mod Stages
+pub mod Tables
 pub mod Units

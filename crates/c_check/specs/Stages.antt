@@ -1,8 +1,10 @@
 -- Stages of the checks of items, as they are made one after the other.
+use Rattle.std.specs.List.{position_or_len}
 use Rattle.std.specs.Prelude.{Bool, false, not, ◌&&◌, ◌||◌, List, ◌++◌, map, length}
 use Rattle.gob_tree.specs.declared.place.Place.{Place}
 use Rattle.gob_tree.specs.declared.stmt.Placed.{Placed}
 use Rattle.gob_tree.specs.declared.unit.Function.{Function}
+use Rattle.gob_tree.specs.declared.unit.Unit.{Unit as TranslationUnit}
 use Rattle.c_parse.specs.declared.raw.stmt.RawPlaced.{RawPlaced}
 use Rattle.c_parse.specs.declared.raw.unit.RawHead.{RawHead}
 use Rattle.c_check.specs.declared.fault.FrontFault.{FrontFault}
@@ -13,7 +15,7 @@ use Rattle.c_parse.specs.declared.raw.unit.RawItem.{RawItem}
 use Rattle.c_check.specs.Faults.{asks}
 use Rattle.c_check.specs.Names.{is_main, FileNames, BodyNames}
 use Rattle.c_check.specs.Bodies.{reading_of, sequence_faults, sequence_becomes, sequence_after}
-use Rattle.c_check.specs.Units.{has_definition, is_value, agrees_with_definition, is_main_head, params_faults, head_names, body_names, param_count, with_return, function_place, global_place, mutex_place}
+use Rattle.c_check.specs.Units.{Made, after_items, items_faults, no_main_faults, limit_faults, is_main_function, has_definition, is_value, agrees_with_definition, is_main_head, params_faults, head_names, body_names, param_count, with_return, function_place, global_place, mutex_place}
 
 -- a prototype that isn't dropped
 abbrev pub declaring_faults : FileNames → RawHead → List FrontFault
@@ -53,3 +55,12 @@ abbrev pub counted_place : Counted → RawItem → List Place
 counted_place Functions item = function_place item
 counted_place Globals item = global_place item
 counted_place Mutexes item = mutex_place item
+
+-- ---- the whole unit
+
+-- the faults of the items, and then of what they become
+abbrev pub whole_faults : List RawItem → Made → List FrontFault
+whole_faults all made = items_faults all made ++ (no_main_faults (after_items all made).funcs ++ limit_faults all)
+
+abbrev pub whole_unit : Made → TranslationUnit
+whole_unit made = record { funcs = made.funcs; globals = made.globals; mutexes = made.mutexes; main = position_or_len is_main_function made.funcs }

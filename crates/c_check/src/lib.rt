@@ -8,6 +8,7 @@ mod fault;
 mod graphs;
 mod heads;
 mod items;
+mod keys;
 mod law;
 mod limits;
 mod meaning;

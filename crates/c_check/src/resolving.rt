@@ -1,18 +1,19 @@
 //! From a tree with names as they are written to a unit with numbers for names.
 
-ghost use Rattle.std.specs.Prelude.{◌≡◌, IfOk};
+ghost use Rattle.std.specs.Prelude.{◌≡◌, [], IfOk, MatchResult};
 ghost use Rattle.std.specs.List.{position_or_len};
 ghost use Rattle.gob_tree.specs.WellMade.{IsWellMade};
-ghost use Rattle.c_check.specs.Faults.{Checks, Passes};
+ghost use Rattle.c_check.specs.Faults.{Checks, Passes, IsFirst};
 ghost use Rattle.c_check.specs.Spelled.{IsSpelled};
-ghost use Rattle.c_check.specs.Units.{is_main_function, no_main_faults, unit_faults, unit_of};
+ghost use Rattle.c_check.specs.Stages.{whole_faults, whole_unit};
+ghost use Rattle.c_check.specs.Units.{is_main_function, after_items, made_of, no_main_faults, unit_faults, unit_of};
 
 use crate::fault::{FrontFault, FrontKind, ask};
 use crate::limits::check_limits;
 use crate::scope::{is_main, next_number};
 use crate::units::Making;
-use c_parse::RawUnit;
-use gob_tree::{Function, Place, Unit};
+use c_parse::{RawItem, RawUnit};
+use gob_tree::{Function, Memory, Place, Unit};
 use std::alloc::Global;
 
 /// The number of `main`, or the number of functions where there is none.
@@ -41,29 +42,56 @@ fn check_has_main(funcs: &[Function]) -> Result<(), FrontFault>
     ask(false, FrontKind::NoMain, Place { line: 1, column: 1 })
 }
 
-/// The checks of a unit, without the law that what they accept is well made.
-#[tactic(auto, using(crate::proofs::Firsts::first_left, crate::proofs::Firsts::first_right, crate::proofs::Firsts::none_of, crate::proofs::Firsts::want_is_first))]
-fn checked(alloc: Global, raw: &RawUnit) -> Result<Unit, FrontFault>
-    ensures { Checks result (unit_faults raw.now) (unit_of raw.now) }
+/// All items, and then what is asked of the whole unit.
+#[tactic(auto, using(crate::proofs::Firsts::first_left, crate::proofs::Firsts::first_right, crate::proofs::Firsts::none_of))]
+fn fill(alloc: Global, making: &mut Making, items: &[RawItem]) -> Result<(), FrontFault>
+    ensures { MatchResult result (λ _. (whole_faults items.now making.old ≡ []) × (making.new ≡ after_items items.now making.old)) (λ fault. IsFirst fault (whole_faults items.now making.old)) }
+{
+    making.add_items(alloc, items)?;
+    check_has_main(making.funcs.as_slice())?;
+    check_limits(items)
+}
+
+/// What the items of a tree become, where the checks and the limits find no fault.
+#[tactic(auto, using(crate::proofs::Firsts::want_is_first, crate::proofs::Resolved::refused, crate::proofs::Resolved::accepted))]
+fn made(alloc: Global, raw: &RawUnit) -> Result<Making, FrontFault>
+    ensures { Checks result (unit_faults raw.now) (made_of raw.now) }
 {
     let items = raw.items.as_slice();
     let mut making = Making::new(alloc, items)?;
-    making.add_items(alloc, items)?;
-    check_has_main(making.funcs.as_slice())?;
-    check_limits(items)?;
-    let main = next_number(main_number(making.funcs.as_slice()))?;
+    match fill(alloc, &mut making, items) {
+        Ok(()) => Ok(making),
+        Err(fault) => Err(fault),
+    }
+}
+
+/// The unit of what was made of all items.
+fn finished(making: Making) -> Result<Unit, Memory>
+    ensures { IfOk result (λ unit. unit ≡ whole_unit making) }
+{
+    let number = main_number(making.funcs.as_slice());
     let Making {
         funcs,
         globals,
         mutexes,
         ..
     } = making;
+    let main = next_number(number)?;
     Ok(Unit {
         funcs,
         globals,
         mutexes,
         main,
     })
+}
+
+/// The checks of a unit, without the law that what they accept is well made.
+#[tactic(auto, using(crate::proofs::Firsts::want_is_first))]
+fn checked(alloc: Global, raw: &RawUnit) -> Result<Unit, FrontFault>
+    ensures { Checks result (unit_faults raw.now) (unit_of raw.now) }
+{
+    let making = made(alloc, raw)?;
+    Ok(finished(making)?)
 }
 
 /// The unit that a tree becomes, or its first fault: the faults of the checks in the order of the

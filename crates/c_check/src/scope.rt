@@ -183,9 +183,8 @@ impl BodyScope {
     ) -> Result<(), Memory>
         ensures { OnOk result (self.new ≡ with_name name.now meaning self.old) }
     {
-        let name = name.copy(alloc)?;
         let depth = self.depth;
-        self.visible.add(name, Declared { meaning, depth })
+        self.visible.add(alloc, name, Declared { meaning, depth })
     }
 
     /// One more slot.

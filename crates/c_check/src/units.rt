@@ -45,8 +45,7 @@ fn add_definition(alloc: Global, list: &mut Named<Signature>, item: &RawItem) ->
         RawItem::Function { head, .. } => {
             let number = next_number(list.len())?;
             let own = signature(alloc, number, head)?;
-            let name = head.name.text.copy(alloc)?;
-            list.push(name, own)
+            list.push(alloc, &head.name.text, own)
         }
         _ => Ok(()),
     }
@@ -70,8 +69,7 @@ fn add_prototype(alloc: Global, list: &mut Named<Signature>, item: &RawItem) -> 
     match item {
         RawItem::Prototype(head) => {
             let own = signature(alloc, 0, head)?;
-            let name = head.name.text.copy(alloc)?;
-            list.push(name, own)
+            list.push(alloc, &head.name.text, own)
         }
         _ => Ok(()),
     }
@@ -119,10 +117,9 @@ impl Making {
         ensures { OnOk result (self.new ≡ with_global name.now width initial self.old) }
     {
         let number = next_number(self.globals.len())?;
-        let text = name.text.copy(alloc)?;
         self.names
             .values
-            .push(text, Meaning::Global(number, width))?;
+            .push(alloc, &name.text, Meaning::Global(number, width))?;
         let name = name.text.copy(alloc)?;
         self.globals.push(GlobalDecl {
             name,
@@ -135,8 +132,9 @@ impl Making {
         ensures { OnOk result (self.new ≡ with_mutex name.now self.old) }
     {
         let number = next_number(self.mutexes.len())?;
-        let text = name.text.copy(alloc)?;
-        self.names.values.push(text, Meaning::Mutex(number))?;
+        self.names
+            .values
+            .push(alloc, &name.text, Meaning::Mutex(number))?;
         let name = name.text.copy(alloc)?;
         self.mutexes.push(name)
     }
@@ -144,8 +142,7 @@ impl Making {
     fn add_prototype(&mut self, alloc: Global, head: &RawHead) -> Result<(), Memory>
         ensures { OnOk result (self.new ≡ with_prototype head.now self.old) }
     {
-        let name = head.name.text.copy(alloc)?;
-        self.names.prototyped.push(name, ())
+        self.names.prototyped.push(alloc, &head.name.text, ())
     }
 
     fn add_function(
@@ -156,8 +153,7 @@ impl Making {
     ) -> Result<(), Memory>
         ensures { OnOk result (self.new ≡ record self.old { names = record self.old.names { defined = self.old.names.defined ++ head.now.name.text ∷ [] }; funcs = self.old.funcs ++ function ∷ [] }) }
     {
-        let name = head.name.text.copy(alloc)?;
-        self.names.defined.push(name, ())?;
+        self.names.defined.push(alloc, &head.name.text, ())?;
         self.funcs.push(function)
     }
 
