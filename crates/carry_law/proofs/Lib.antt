@@ -1,0 +1,14 @@
+pub mod Alike
+pub mod Begins
+pub mod Edges
+pub mod Fits
+pub mod Guards
+pub mod Mains
+pub mod Naming
+pub mod Origins
+pub mod Renamed
+pub mod RenamedStates
+pub mod Renaming
+pub mod Satisfied
+pub mod Tables
+pub mod Transfers
