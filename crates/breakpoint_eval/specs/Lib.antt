@@ -1,0 +1,7 @@
+pub mod Columns
+pub mod Comparisons
+pub mod Laws
+pub mod Lines
+pub mod Names
+pub mod Placing
+pub mod Watching
