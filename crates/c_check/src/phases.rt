@@ -70,16 +70,17 @@ fn tree_of(alloc: Global, text: &[u8], tokens: &[Token]) -> Result<RawUnit, Fron
     }
 }
 
-/// The source of a tree that was read from a text.
-fn source_of(alloc: Global, text: &[u8], raw: &RawUnit) -> Result<Source, FrontFault>
-    requires read { Reads text.now raw.now }
+/// The source of a tree that was read from a text. The tree goes before the graphs come.
+fn source_of(alloc: Global, text: &[u8], raw: RawUnit) -> Result<Source, FrontFault>
+    requires read { Reads text.now raw }
     ensures accepted { IfOk result (IsSourceOf text.now) }
     ensures refused { IfErr result (IsFirstOf text.now) }
     ensures made { IfOk result (λ source. IsWellMade source.unit) }
     ensures formed { IfOk result (λ source. IsFormed source.program) }
 {
     accepted_is_well_made();
-    let unit = resolve(alloc, raw)?;
+    let unit = resolve(alloc, &raw)?;
+    drop(raw);
     let graphs = graphs_of(alloc, unit.funcs.as_slice())?;
     let program = program_with(alloc, &unit, graphs)?;
     let text = Text::of(alloc, text)?;
@@ -104,5 +105,5 @@ pub fn front(alloc: Global, text: &[u8]) -> Result<Source, FrontFault>
 {
     let tokens = tokens_of(alloc, text)?;
     let raw = tree_of(alloc, text, tokens.as_slice())?;
-    source_of(alloc, text, &raw)
+    source_of(alloc, text, raw)
 }

@@ -1,6 +1,7 @@
 //! From the tokens of a text to what the grammar sees of them.
 
 ghost use Rattle.std.specs.Prelude.{◌≡◌, ◌<◌, ◌≤◌, All, IfOk, length, map, slice_range};
+ghost use Rattle.std.specs.Str.{bytes_eq};
 ghost use Rattle.c_lex.specs.Tokens.{IsInText};
 ghost use Rattle.c_parse.specs.Terminals as spec;
 
@@ -44,22 +45,32 @@ const OTHER_KEYWORDS: [&[u8]; 31] = [
     b"_Thread_local",
 ];
 
+/// Whether two words have the same bytes. Most differ in the first.
+fn is_word(word: &[u8], other: &[u8]) -> bool
+    ensures { result ≡ bytes_eq word.now other.now }
+{
+    match (word, other) {
+        ([first, ..], [wanted, ..]) => *first == *wanted && word == other,
+        _ => word == other,
+    }
+}
+
 fn declaring_word(word: &[u8]) -> Option<Kind>
     ensures { result ≡ spec.declaring_word word.now }
 {
-    if word == b"int".as_slice() {
+    if is_word(word, b"int") {
         return Some(Kind::Int);
     }
-    if word == b"long".as_slice() {
+    if is_word(word, b"long") {
         return Some(Kind::Long);
     }
-    if word == b"void".as_slice() {
+    if is_word(word, b"void") {
         return Some(Kind::Void);
     }
-    if word == b"static".as_slice() {
+    if is_word(word, b"static") {
         return Some(Kind::Static);
     }
-    if word == b"extern".as_slice() {
+    if is_word(word, b"extern") {
         return Some(Kind::Extern);
     }
     None
@@ -68,28 +79,28 @@ fn declaring_word(word: &[u8]) -> Option<Kind>
 fn statement_word(word: &[u8]) -> Option<Kind>
     ensures { result ≡ spec.statement_word word.now }
 {
-    if word == b"if".as_slice() {
+    if is_word(word, b"if") {
         return Some(Kind::If);
     }
-    if word == b"else".as_slice() {
+    if is_word(word, b"else") {
         return Some(Kind::Else);
     }
-    if word == b"while".as_slice() {
+    if is_word(word, b"while") {
         return Some(Kind::While);
     }
-    if word == b"do".as_slice() {
+    if is_word(word, b"do") {
         return Some(Kind::Do);
     }
-    if word == b"for".as_slice() {
+    if is_word(word, b"for") {
         return Some(Kind::For);
     }
-    if word == b"break".as_slice() {
+    if is_word(word, b"break") {
         return Some(Kind::Break);
     }
-    if word == b"continue".as_slice() {
+    if is_word(word, b"continue") {
         return Some(Kind::Continue);
     }
-    if word == b"return".as_slice() {
+    if is_word(word, b"return") {
         return Some(Kind::Return);
     }
     None
@@ -98,31 +109,31 @@ fn statement_word(word: &[u8]) -> Option<Kind>
 fn library_word(word: &[u8]) -> Option<Kind>
     ensures { result ≡ spec.library_word word.now }
 {
-    if word == b"NULL".as_slice() {
+    if is_word(word, b"NULL") {
         return Some(Kind::Null);
     }
-    if word == b"assert".as_slice() {
+    if is_word(word, b"assert") {
         return Some(Kind::Assert);
     }
-    if word == b"pthread_t".as_slice() {
+    if is_word(word, b"pthread_t") {
         return Some(Kind::Thread);
     }
-    if word == b"pthread_mutex_t".as_slice() {
+    if is_word(word, b"pthread_mutex_t") {
         return Some(Kind::Mutex);
     }
-    if word == b"PTHREAD_MUTEX_INITIALIZER".as_slice() {
+    if is_word(word, b"PTHREAD_MUTEX_INITIALIZER") {
         return Some(Kind::Initializer);
     }
-    if word == b"pthread_create".as_slice() {
+    if is_word(word, b"pthread_create") {
         return Some(Kind::Create);
     }
-    if word == b"pthread_join".as_slice() {
+    if is_word(word, b"pthread_join") {
         return Some(Kind::Join);
     }
-    if word == b"pthread_mutex_lock".as_slice() {
+    if is_word(word, b"pthread_mutex_lock") {
         return Some(Kind::Lock);
     }
-    if word == b"pthread_mutex_unlock".as_slice() {
+    if is_word(word, b"pthread_mutex_unlock") {
         return Some(Kind::Unlock);
     }
     None
@@ -133,7 +144,7 @@ fn is_one_of(words: &[&[u8]], word: &[u8]) -> bool
 {
     let mut left = words;
     while let [first, rest @ ..] = left {
-        if *first == word {
+        if is_word(first, word) {
             return true;
         }
         left = rest;

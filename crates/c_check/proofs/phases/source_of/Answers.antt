@@ -16,12 +16,12 @@ use Rattle.c_check.proofs.phases.source_of.Goals as goal
 pub returns-in_err-unit-clause-refused : goal.returns-in_err-unit-clause-refused
 returns-in_err-unit-clause-refused c =
     let p = err_from_is_err_and c.from_residual.result c.from_residual.ensures.1 in
-    rw (p.1, p.2) (unit_refused c.args.text.now c.args.raw.now c.in_err-unit.field-0.0 c.requires.read c.in_err-unit.ensures.checked)
+    rw (p.1, p.2) (unit_refused c.args.text.now c.args.raw c.in_err-unit.field-0.0 c.requires.read c.in_err-unit.ensures.checked)
 
 pub returns-in_err-graphs-clause-refused : goal.returns-in_err-graphs-clause-refused
 returns-in_err-graphs-clause-refused c =
     let p = err_from_is_err_and c.from_residual-in_err-graphs.result c.from_residual-in_err-graphs.ensures.1 in
-    rw (p.1, p.2) (graphs_refused c.args.text.now c.args.raw.now c.in_err-graphs.field-0.0 c.requires.read c.in_ok-unit.ensures.checked.0
+    rw (p.1, p.2) (graphs_refused c.args.text.now c.args.raw c.in_err-graphs.field-0.0 c.requires.read c.in_ok-unit.ensures.checked.0
     (subst (λ (fs : List Function). IsFirst c.in_err-graphs.field-0.0 (graph_faults 0 fs)) (c.as_slice.ensures ∙ ap (λ (u : TranslationUnit). u.funcs) c.in_ok-unit.ensures.checked.1) c.in_err-graphs.ensures))
 
 pub returns-in_err-program-clause-refused : goal.returns-in_err-program-clause-refused
@@ -39,5 +39,5 @@ returns-clause-formed c =
     let unit = c.in_ok-unit.ensures.checked in
     let funcs = c.as_slice.ensures ∙ ap (λ (u : TranslationUnit). u.funcs) unit.1 in
     let none = subst (λ (fs : List Function). graph_faults 0 fs ≡ []) funcs c.in_ok-graphs.ensures.0 in
-    let formed = tree_formed c.args.raw.now (reads_spelled c.args.text.now c.args.raw.now c.requires.read) (no_faults c.args.raw.now unit.0 none) in
+    let formed = tree_formed c.args.raw (reads_spelled c.args.text.now c.args.raw c.requires.read) (no_faults c.args.raw unit.0 none) in
     subst (λ (p : Program). IsFormed p) (sym (ap (λ (s : Source). s.program) c.of-2.ensures ∙ c.in_ok-program.ensures ∙ ap program_of unit.1)) formed
