@@ -1,0 +1,4 @@
+pub mod Adding
+pub mod Keeps
+pub mod Numbers
+pub mod Whole
