@@ -114,3 +114,20 @@ lines_of p t us = flat_map (λ (u : Unknown). line_of p u (value_at t u)) us
 -- the printed table of a program
 abbrev pub printed : Program → TableValue → List ℕ
 printed p t = lines_of p t (in_unknown_order (keys_of t))
+
+-- ---- the globals alone
+
+-- the line of a global, of what the table has for it
+abbrev pub value_line : GlobalDecl → Option Value → List ℕ
+value_line g None = []
+value_line g (Some (State s)) = []
+value_line g (Some (Number x)) = global_line (Some g) x
+
+-- the lines of these globals, the first of which has number g
+abbrev pub global_lines : TableValue → ℕ → List GlobalDecl → List ℕ
+global_lines t g [] = []
+global_lines t g (decl ∷ decls) = value_line decl (value_at t (Global g)) ++ global_lines t (g + 1) decls
+
+-- the lines of a program's globals, in their order
+abbrev pub printed_globals : Program → TableValue → List ℕ
+printed_globals p t = global_lines t 0 p.globals

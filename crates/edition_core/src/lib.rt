@@ -10,4 +10,4 @@ mod printed;
 
 pub use board::{BoardStatus, Verdict};
 pub use edition::{Edition, Trace};
-pub use printed::print_table;
+pub use printed::{print_globals, print_table};

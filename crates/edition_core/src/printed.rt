@@ -1,5 +1,6 @@
 //! The printed table: a line for each unknown, in the order of unknowns.
 ghost use Rattle.std.specs.Prelude.{◌≡◌, ◌<◌, ◌≤◌, ◌++◌, [], Some, IfOk, OnOk, codes, decimal, length, slice_get, map, if◌then◌else◌, nat_eq, true};
+ghost use Rattle.std.specs.Option.{option_copied};
 ghost use Rattle.gob_tree.specs.Formed.{IsFormed, IsFormedFunction};
 ghost use Rattle.gob_tree.specs.declared.graph.FuncGraph.{FuncGraph as TheFunction};
 ghost use Rattle.state_dom.specs.StateValue.{HasShape, is_reached, slots_of, locks_of};
@@ -43,6 +44,32 @@ pub fn print_table(alloc: Global, program: &Program, table: &Table) -> Result<Ve
         order.as_slice(),
     )?;
     Ok(out)
+}
+
+/// The lines of a program's globals alone, in their order, as the printed table has them. `Memory` is
+/// want of memory.
+pub fn print_globals(alloc: Global, program: &Program, table: &Table) -> Result<Vec<u8>, Memory>
+    requires { IsFormed program.now }
+    ensures { IfOk result (λ bytes. bytes.items ≡ spec.printed_globals program.now table.now) }
+{
+    let mut out = Vec::new(alloc);
+    for (g, global) in program.globals.as_slice().iter().enumerate() {
+        push_value_line(&mut out, global, table.get(&Unknown::Global(g as u16)))?;
+    }
+    Ok(out)
+}
+
+fn push_value_line(
+    out: &mut Vec<u8>,
+    global: &GlobalDecl,
+    value: Option<&Value>,
+) -> Result<(), Memory>
+    ensures { OnOk result (out.new.items ≡ out.old.items ++ spec.value_line global.now (option_copied value.entry)) }
+{
+    match value {
+        Some(Value::Number(interval)) => push_global_line(out, global, *interval),
+        _ => Ok(()),
+    }
 }
 
 fn push_lines(
