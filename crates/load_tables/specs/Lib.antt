@@ -1,0 +1,3 @@
+pub mod Ends
+pub mod Loads
+pub mod Tables
