@@ -1,5 +1,7 @@
 pub mod Accepting
+mod Answering
 pub mod Asked
+mod LoadWords
 pub mod Loads
 pub mod Solving
 pub mod Telling

@@ -6,6 +6,7 @@ use Rattle.gobpie_main.specs.declared.status.Status.TheVariants.{Memory}
 use Rattle.gobpie_main.specs.Analyse.{AnswersAnalyse, AnswersText}
 use Rattle.gobpie_main.specs.Batch.{AnswersWords}
 use Rattle.gobpie_main.specs.Lines.{memory_line}
+use Rattle.gobpie_main.specs.Load.{AnswersLoad}
 use Rattle.gobpie_main.specs.Run.{AnswersRun, AnswersTexts}
 use Rattle.gobpie_main.specs.Outside.{AsksFor, AsksForBoth, Outside, SameFiles, Said, SinkNow}
 
@@ -57,12 +58,27 @@ memory_of_run file schedule before after same said = record {
   memory_said = λ is. said;
 }
 
+memory_of_load : (number functions : ℕ) (before after : SinkNow) → Said before after memory_line → AnswersLoad number functions Memory before after
+memory_of_load number functions before after said = record {
+  not_usage = λ is. absurd (cc is);
+  not_read_fault = λ is. absurd (cc is);
+  not_script = λ is. absurd (cc is);
+  complete = λ is. absurd (cc is);
+  cut_short = λ is. absurd (cc is);
+  write_fault = λ is. absurd (cc is);
+  spent = λ is. absurd (cc is);
+  spent_said = λ is. absurd (cc is);
+  refused = λ is. absurd (cc is);
+  memory_said = λ is. said;
+}
+
 pub memory_answers : (words : List Word) (before after : Outside) → SameFiles before after → Said before.sink after.sink memory_line → AnswersWords words Memory before after
 memory_answers words before after same said = record {
   usage = λ not_memory. absurd (not_memory refl);
   usage_said = λ is. absurd (cc is);
   analyse = λ file budget asks. memory_of_analyse file budget before after same said;
   run = λ file schedule asks. memory_of_run file schedule before after same said;
+  load = λ number functions asks. (same, memory_of_load number functions before.sink after.sink said);
   untouched = λ none. same;
   memory_said = λ is. said;
 }

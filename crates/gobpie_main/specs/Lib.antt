@@ -3,6 +3,7 @@ pub mod Arguments
 pub mod Batch
 pub mod Command
 pub mod Lines
+pub mod Load
 pub mod Loading
 pub mod Numbers
 pub mod Outside

@@ -1,8 +1,10 @@
 -- The lines of statuses. Each ends with LF.
-use Rattle.std.specs.Prelude.{ℕ, List, ◌++◌, codes, decimal}
+use Rattle.std.specs.Prelude.{◌≢◌, ℕ, List, ◌++◌, codes, decimal}
 use Rattle.c_check.specs.declared.fault.FrontFault.{FrontFault}
 use Rattle.c_check.specs.declared.fault.FrontKind.{FrontKind}
 use Rattle.c_check.specs.declared.fault.FrontKind.TheVariants.{TooLong, NotText, BadCharacter, OpenComment, BadLiteral, Unsupported, Unexpected, TooDeep, Undeclared, Redeclared, WrongKind, WrongArity, NoMain, Limit, Memory}
+use Rattle.gobpie_main.specs.declared.status.Status.{Status}
+use Rattle.gobpie_main.specs.declared.status.Status.TheVariants.{Usage, ReadFault, SourceRefused, ScriptRefused, Spent}
 
 abbrev pub usage_line : List ℕ
 usage_line = codes "usage: gobpie analyse|run|replay|load|debug|serve\n"
@@ -37,3 +39,11 @@ kind_text Memory = codes "Memory"
 abbrev pub refused_line : FrontFault → List ℕ
 refused_line fault =
     codes "refused " ++ decimal fault.place.line ++ codes ":" ++ decimal fault.place.column ++ codes " " ++ kind_text fault.kind ++ codes "\n"
+
+-- a status that comes of lines that are owed, those of a run or a load
+pub record IsOfLines (status : Status) : Type 0 where
+  pub not_usage : status ≢ Usage
+  pub not_read_fault : status ≢ ReadFault
+  pub not_refused : status ≢ SourceRefused
+  pub not_script : status ≢ ScriptRefused
+  pub not_spent : status ≢ Spent

@@ -47,14 +47,6 @@ pub record AnswersTexts (text schedule : List ℕ) (status : Status) (before aft
   pub complete : status ≡ Ok → (bytes : List ℕ) × TextRuns text schedule bytes × Wrote before after bytes
   pub cut_short : status ≡ WriteFault → (bytes : List ℕ) × TextRuns text schedule bytes × ((n : ℕ) × Wrote before after (take n bytes))
 
--- a status that comes of a run of choices
-pub record IsOfChoices (status : Status) : Type 0 where
-  pub not_usage : status ≢ Usage
-  pub not_read_fault : status ≢ ReadFault
-  pub not_refused : status ≢ SourceRefused
-  pub not_script : status ≢ ScriptRefused
-  pub not_spent : status ≢ Spent
-
 -- a status that comes of a schedule
 pub record IsOfSchedule (status : Status) : Type 0 where
   pub not_usage : status ≢ Usage

@@ -7,6 +7,7 @@ mod arguments;
 mod batch;
 mod edge;
 mod lines;
+mod load;
 mod loading;
 mod report;
 mod run;

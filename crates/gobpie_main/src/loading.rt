@@ -122,7 +122,7 @@ fn front_of<O: Sink>(alloc: Global, text: &[u8], out: &mut O) -> Result<Source, 
 }
 
 /// Tells the fault of a text.
-fn refuse<O: Sink>(alloc: Global, fault: FrontFault, out: &mut O) -> Status
+pub fn refuse<O: Sink>(alloc: Global, fault: FrontFault, out: &mut O) -> Status
     ensures status { IsWithoutSource result }
     ensures read { result ≢ Status.ReadFault }
     ensures refused { result ≡ Status.SourceRefused → Says O.written O.write_faults out.old out.new (refused_line fault) }

@@ -2,10 +2,10 @@
 ghost use Rattle.std.specs.Prelude.{◌≡◌, ◌≢◌, ◌⊎◌, ◌↔◌, ◌<◌, ◌≤◌, ℕ, List, Option, IsTrue, length, vec_len, take, IfOk};
 ghost use Rattle.gob_outside.specs.Count.{Rose};
 ghost use Rattle.gob_outside.specs.Faults.{Asks};
-ghost use Rattle.gobpie_main.specs.Lines.{memory_line, read_fault_line};
+ghost use Rattle.gobpie_main.specs.Lines.{IsOfLines, memory_line, read_fault_line};
 ghost use Rattle.gobpie_main.specs.Loading.{IsLoadOf, IsLoadOfNone};
 ghost use Rattle.gobpie_main.specs.Outside.{Says, TellsNone, TellsText, Wrote, outside, sink_now};
-ghost use Rattle.gobpie_main.specs.Run.{AnswersRun, AnswersTexts, IsOfChoices, IsOfSchedule, Runs, TellsBadLine, script_line};
+ghost use Rattle.gobpie_main.specs.Run.{AnswersRun, AnswersTexts, IsOfSchedule, Runs, TellsBadLine, script_line};
 ghost use Rattle.run_lines.specs.Lines.{run_lines};
 
 use crate::lines::{say, script_line, want_of_memory};
@@ -147,7 +147,7 @@ fn run_schedule<O: Sink>(alloc: Global, unit: &Unit, schedule: &[u8], out: &mut 
 /// Prints the lines of a unit's run by these choices.
 fn run_choices<O: Sink>(alloc: Global, unit: &Unit, choices: &[Choice], out: &mut O) -> Status
     requires { length choices.now < 4294967294 }
-    ensures own { IsOfChoices result }
+    ensures own { IsOfLines result }
     ensures complete { result ≡ Status.Ok → Wrote (sink_now O.written O.write_faults out.old) (sink_now O.written O.write_faults out.new) (run_lines unit.now choices.now) }
     ensures cut_short { result ≡ Status.WriteFault → (n : ℕ) × Wrote (sink_now O.written O.write_faults out.old) (sink_now O.written O.write_faults out.new) (take n (run_lines unit.now choices.now)) }
     ensures write_fault { result ≡ Status.WriteFault → Rose (O.write_faults out.old) (O.write_faults out.new) }
