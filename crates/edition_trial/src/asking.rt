@@ -1,10 +1,10 @@
 //! What is asked of the edition of a text, answered plainly: each call is false too where there is no
 //! edition of the text, or memory is wanting.
 
-use crate::edition_of;
 use arg_chain::chain;
 use arg_graph::{Frame, Label, Stack, Step, Vertex, label_text};
 use edition_core::Edition;
+use edition_texts::edition_of;
 use gob_tree::{Memory, Program};
 use std::alloc::Global;
 

@@ -3,7 +3,6 @@
 #![tactic(auto)]
 
 mod asking;
-mod begin;
 #[cfg(test)]
 mod chains;
 #[cfg(test)]
@@ -12,4 +11,3 @@ mod graphs;
 mod texts;
 
 pub use asking::{at_node, goes_on, has_chain, offers, reads, stands_at};
-pub use begin::edition_of;

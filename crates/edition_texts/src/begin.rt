@@ -10,7 +10,7 @@ use c_check::front;
 use c_source::Source;
 use constraint_sys::initial;
 use edition_core::Edition;
-use gob_tree::Memory;
+use gob_tree::{Memory, Program};
 use std::alloc::Global;
 use std::sync::Arc;
 use td_solver::{Job, Outcome, Solved, solve};
@@ -29,6 +29,14 @@ pub fn edition_of(alloc: Global, text: &[u8]) -> Option<Edition> {
         Outcome::Spent(_) => None,
         Outcome::Memory => None,
     }
+}
+
+/// The program of an edition.
+pub(crate) fn program_of(edition: &Edition) -> &Program
+    ensures value { result.now ≡ edition.now.source.program }
+    ensures formed { IsFormed result.now }
+{
+    edition.source().program()
 }
 
 /// The job to solve a source's program from its initial table.

@@ -1,8 +1,8 @@
 use Rattle.std.proofs.Common.{refl, subst, sym}
 use Rattle.c_source.specs.declared.source.Source.{Source}
 use Rattle.constraint_sys.specs.PostSolution.{IsPostSolution}
-use Rattle.edition_trial.proofs.Beginning.{sound_start, turnable_start}
-use Rattle.edition_trial.proofs.begin.edition_of.Goals as goal
+use Rattle.edition_texts.proofs.Beginning.{sound_start, turnable_start}
+use Rattle.edition_texts.proofs.begin.edition_of.Goals as goal
 
 pub solve-requires-clause-turnable : goal.solve-requires-clause-turnable
 solve-requires-clause-turnable c = turnable_start c.in-Ok-job_of.job c.in-Ok.source c.in-Ok-job_of.ensures.source c.in-Ok-job_of.ensures.start c.in-Ok.ensures.formed
