@@ -1,7 +1,9 @@
 //! Watched expressions.
 use crate::texts::{HIDDEN, TWICE, in_f, in_main};
+use arg_graph::Vertex;
 use constraint_sys::ArgKey;
 use edition_texts::{Unanswered, watched};
+use std::alloc::Global;
 use std::test::Fail;
 
 #[test]
@@ -36,14 +38,22 @@ fn names_are_locals_first(rt: HostRuntime) -> Result<(), Fail> {
     Ok(())
 }
 
+/// Why an expression isn't answered; `None` where it is.
+fn refusal(alloc: Global, text: &[u8], v: Option<Vertex>, expression: &[u8]) -> Option<Unanswered> {
+    match watched(alloc, text, v, expression) {
+        Ok(_) => None,
+        Err(why) => Some(why),
+    }
+}
+
 #[test]
 fn an_unknown_name_is_told(rt: HostRuntime) -> Result<(), Fail> {
     let alloc = rt.alloc();
     let name = Some(Unanswered::Name);
     let any = Some(in_f(ArgKey::Any));
-    assert!(rt; watched(alloc, TWICE, any, b"q").err() == name);
-    assert!(rt; watched(alloc, TWICE, any, b"0 && q").err() == name);
-    assert!(rt; watched(alloc, TWICE, None, b"n").err() == name);
-    assert!(rt; watched(alloc, HIDDEN, Some(in_main(0, 3)), b"y").err() == name);
+    assert!(rt; refusal(alloc, TWICE, any, b"q") == name);
+    assert!(rt; refusal(alloc, TWICE, any, b"0 && q") == name);
+    assert!(rt; refusal(alloc, TWICE, None, b"n") == name);
+    assert!(rt; refusal(alloc, HIDDEN, Some(in_main(0, 3)), b"y") == name);
     Ok(())
 }
