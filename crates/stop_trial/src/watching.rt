@@ -49,9 +49,8 @@ fn has_unknown_name(alloc: Global, text: &[u8], v: Option<Vertex>, expression: &
 #[test]
 fn an_unknown_name_is_told(rt: HostRuntime) -> Result<(), Fail> {
     let alloc = rt.alloc();
-    let any = Some(in_f(ArgKey::Any));
-    assert!(rt; has_unknown_name(alloc, TWICE, any, b"q"));
-    assert!(rt; has_unknown_name(alloc, TWICE, any, b"0 && q"));
+    assert!(rt; has_unknown_name(alloc, TWICE, Some(in_f(ArgKey::Any)), b"q"));
+    assert!(rt; has_unknown_name(alloc, TWICE, Some(in_f(ArgKey::Any)), b"0 && q"));
     assert!(rt; has_unknown_name(alloc, TWICE, None, b"n"));
     assert!(rt; has_unknown_name(alloc, HIDDEN, Some(in_main(0, 3)), b"y"));
     Ok(())
