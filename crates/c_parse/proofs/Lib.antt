@@ -21,3 +21,4 @@ pub mod UniqueStatement
 pub mod UniqueUnit
 pub mod UnitExits
 pub mod Unsigned
+pub mod Words

@@ -66,6 +66,10 @@ or_else None o = o
 abbrev pub profile_word : List ℕ → Option Kind
 profile_word w = or_else (declaring_word w) (or_else (statement_word w) (library_word w))
 
+-- the word of the profile or the other keyword that it is, if it is one
+abbrev pub fixed_word : List ℕ → Option Kind
+fixed_word w = or_else (profile_word w) (if is_one_of other_keywords w then Some kinds.Keyword else None)
+
 abbrev pub word_or_name : Option Kind → List ℕ → Kind
 word_or_name (Some k) w = k
 word_or_name None w = if is_one_of other_keywords w then kinds.Keyword else kinds.Name w

@@ -7,6 +7,7 @@ mod expr_text;
 mod expression;
 mod fault;
 mod fault_of;
+mod fixed;
 mod head;
 mod law;
 mod raw;
