@@ -1,8 +1,8 @@
 pub mod Accepting
 mod Answering
 pub mod Asked
+mod Loads
 mod LoadWords
-pub mod Loads
+mod Refusing
 pub mod Solving
-pub mod Telling
-pub mod Wanting
+mod Written

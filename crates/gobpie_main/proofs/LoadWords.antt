@@ -1,14 +1,26 @@
 -- A reading of `load` names at least one function, and at most 120.
 use Rattle.std.proofs.Common.{◌≡◌, ◌&&◌, ℕ, nat_le, Bool, true, false, cond, List, [], ◌∷◌, Option, Some, None, option_map, option_and_then, codes, arith, length, refl, subst}
-use Rattle.std.specs.Prelude.{slice_get}
+use Rattle.std.specs.Prelude.{IfSome, slice_get}
 use Rattle.std.specs.Str.{all_ascii_digits, bytes_eq}
 use Rattle.std.specs.Str.Parse.{digits_value}
 use Rattle.std.proofs.lemmas.Bool.{leb-true}
 use Rattle.command_words.specs.Reading.{Word, positionals_of, reading, value_of}
 use Rattle.command_words.specs.Numbers.{analyse_budget, edition_budget, load_functions, load_number, number, serve_hands, serve_port, serve_rounds}
 use Rattle.command_words.specs.CommandLines.{analyse_form, command_reading, load_form, replay_form, run_form, serve_form}
+use Rattle.command_words.specs.Names.{NamesAreText}
 use Rattle.command_words.specs.declared.line.CommandLine.{CommandLine}
-use Rattle.gobpie_main.specs.Command.{HasFunctions, IsFewFunctions}
+use Rattle.command_words.specs.declared.line.CommandLine.TheVariants.{Analyse, Run, Replay, Load, Debug, Serve}
+use Rattle.gobpie_main.specs.Command.{IsProper, built_of}
+use Rattle.gobpie_main.specs.Load.{IsFewFunctions}
+
+-- so many a generated program has
+abbrev HasFunctions : CommandLine → Type 0
+HasFunctions (Analyse file budget) = Unit {0}
+HasFunctions (Run file schedule) = Unit {0}
+HasFunctions (Replay script) = Unit {0}
+HasFunctions (Load number functions) = IsFewFunctions functions
+HasFunctions (Debug file budget) = Unit {0}
+HasFunctions (Serve file hands rounds port budget) = Unit {0}
 
 -- ---- the number of functions
 
@@ -53,7 +65,7 @@ module _ (line : CommandLine) where
   either true x y first second e = first e
   either false x y first second e = second e
 
-pub has_functions : (words : List Word) (line : CommandLine) → command_reading words ≡ Some line → HasFunctions line
+has_functions : (words : List Word) (line : CommandLine) → command_reading words ≡ Some line → HasFunctions line
 has_functions [] line e = absurd (cc)
 has_functions (command ∷ words) line e =
     either line (bytes_eq command (codes "analyse")) _ _
@@ -70,3 +82,16 @@ has_functions (command ∷ words) line e =
     (made line (reading serve_form words) _ (λ xs. made line (slice_get (positionals_of xs) 0) _ (λ name. made line (serve_hands (value_of (codes "hands") xs)) _ (λ h. made line (serve_rounds (value_of (codes "rounds") xs)) _
     (λ r. made line (serve_port (value_of (codes "port") xs)) _ (λ p. mapped line (edition_budget (value_of (codes "budget") xs)) _ (λ n is. tt)))))))
     (λ e. absurd (cc))))))) e
+
+-- ---- so a command that is built is proper
+
+proper_of : (line : CommandLine) → NamesAreText line → HasFunctions line → IfSome (built_of line) IsProper
+proper_of (Analyse file budget) names few = names
+proper_of (Run file schedule) names few = names
+proper_of (Replay script) names few = tt
+proper_of (Load number functions) names few = few
+proper_of (Debug file budget) names few = tt
+proper_of (Serve file hands rounds port budget) names few = tt
+
+pub is_proper : (words : List Word) (line : CommandLine) → command_reading words ≡ Some line → NamesAreText line → IfSome (built_of line) IsProper
+is_proper words line reads names = proper_of line names (has_functions words line reads)
