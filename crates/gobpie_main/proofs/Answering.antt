@@ -10,5 +10,5 @@ use Rattle.gobpie_main.proofs.Loads.{asks_nothing}
 pub memory_answers : (command : Option BuiltCommand) (files : FilesNow) → Answers command (Bad Memory) files files
 memory_answers None files = (inr refl, refl)
 memory_answers (Some (Analyse file budget)) files = (inl tt, asks_nothing file files)
-memory_answers (Some (Run file schedule)) files = (inl tt, files, asks_nothing file files, asks_nothing schedule files)
+memory_answers (Some (Run file schedule)) files = (inl tt, (files, asks_nothing file files, asks_nothing schedule files))
 memory_answers (Some (Load number functions)) files = (tt, refl)

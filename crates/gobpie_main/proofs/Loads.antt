@@ -17,7 +17,7 @@ told_longer (Some text) limit long = (text, refl, long)
 
 longer : (o : Option (List ℕ → Option (List ℕ))) (name : List ℕ) (limit : ℕ) → IfSome o (λ told. IsSomeAnd (told name) (λ text. limit < length text))
     → (text : List ℕ) × IfSome o (λ told. told name ≡ Some text) × (limit < length text)
-longer None name limit long = (replicate (limit + 1) 0, tt, rw (length-replicate (limit + 1) 0) (omega arith))
+longer None name limit long = (replicate (limit + 1) 0, tt, rw (length-replicate {A = ℕ} (limit + 1) 0) (omega arith))
 longer (Some told) name limit long = told_longer (told name) limit long
 
 pub longer_loads : (files : FilesNow) (name : List ℕ) (limit : ℕ) → IsLongerThan files name limit → LoadsText files name limit None

@@ -17,8 +17,10 @@ with_bytes_twice (Some old) a b = ap (λ (l : List ℕ). Some l) (append_assoc o
 
 module _ (before after : SinkNow) (bytes : List ℕ) where
   -- all were written, and then the sink couldn't pass them on
-  pub cut_at_flush : (between : SinkNow) → Wrote before between bytes → after.written ≡ between.written → Rose between.faults after.faults → CutShort before after bytes
-  cut_at_flush between wrote kept rose = record {
+  pub cut_at_flush : {A E : Type 0} (r : Result A E) (between : SinkNow) → Wrote before between bytes → after.written ≡ between.written → OnErr r (Rose between.faults after.faults)
+      → OnErr r (CutShort before after bytes)
+  cut_at_flush (Ok v) between wrote kept rose = tt
+  cut_at_flush (Err e) between wrote kept rose = record {
     sent = length bytes;
     bytes_are = kept ∙ (wrote.bytes_are ∙ ap (λ (l : List ℕ). with_bytes before.written l) (sym (take-length bytes)));
     failed = subst (λ (n : ℕ). Rose n after.faults) wrote.fine rose;

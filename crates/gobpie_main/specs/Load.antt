@@ -5,7 +5,7 @@ use Rattle.c_source.specs.declared.source.Source.{Source}
 use Rattle.constraint_sys.specs.Table.{TableValue}
 use Rattle.edition_core.specs.Printed.{printed_globals}
 use Rattle.load_tables.specs.Loads.{IsRefused, IsSolvedAt, IsSpent}
-use Rattle.load_tables.specs.declared.TheConstants.{TURNS}
+use Rattle.load_tables.specs.declared.solving.TheConstants.{TURNS}
 use Rattle.gobpie_main.specs.Fault.{Answer}
 use Rattle.gobpie_main.specs.declared.fault.Fault.TheVariants.{Usage, ReadFault, Refused, BadLine, Spent, Memory}
 

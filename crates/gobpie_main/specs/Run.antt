@@ -13,7 +13,7 @@ use Rattle.run_lines.specs.Lines.{run_lines}
 use Rattle.run_lines.specs.Schedule.{schedule_of}
 use Rattle.gobpie_main.specs.Fault.{Answer}
 use Rattle.gobpie_main.specs.Loading.{AsksFor, IsLoadFault, IsRefusedBy}
-use Rattle.gobpie_main.specs.declared.TheConstants.{SCHEDULE_LIMIT}
+use Rattle.gobpie_main.specs.declared.run.TheConstants.{SCHEDULE_LIMIT}
 use Rattle.gobpie_main.specs.declared.fault.Fault.{Fault}
 use Rattle.gobpie_main.specs.declared.fault.Fault.TheVariants.{Usage, ReadFault, Refused, BadLine, Spent, Memory}
 

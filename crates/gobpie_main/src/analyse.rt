@@ -50,7 +50,10 @@ fn table_of(alloc: Global, source: Source, budget: u64) -> Answer
     trees_are_shown();
     let job = job_of(alloc, source)?;
     match solve(alloc, job, budget) {
-        Outcome::Clean(solved) => Ok(print_complete(alloc, &solved)?),
+        Outcome::Clean(solved) => {
+            let bytes = print_complete(alloc, &solved)?;
+            Ok(bytes)
+        }
         Outcome::Spent(_run) => Err(Fault::Spent(budget)),
         Outcome::Memory => Err(Fault::Memory),
     }

@@ -17,7 +17,10 @@ pub fn load(alloc: Global, number: u64, functions: u32) -> Answer
     ensures { AnswersLoad number functions result }
 {
     match load_tables(alloc, number, functions) {
-        Ok(loaded) => Ok(lines_of(alloc, functions, &loaded)?),
+        Ok(loaded) => {
+            let lines = lines_of(alloc, functions, &loaded)?;
+            Ok(lines)
+        }
         Err(LoadStop::Spent) => Err(Fault::Spent(TURNS)),
         Err(LoadStop::Refused(fault)) => Err(Fault::Refused(fault)),
         Err(LoadStop::Memory) => Err(Fault::Memory),

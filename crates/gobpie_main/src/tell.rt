@@ -49,8 +49,11 @@ pub fn tell_fault<O: Sink>(alloc: Global, lines: &[u8], fault: Fault, out: &mut 
 fn say<O: Sink>(first: &[u8], second: &[u8], out: &mut O)
     ensures { Said (O.seen out.old) (O.seen out.new) (first.now ++ second.now) }
 {
-    if write_all(out, first).is_ok() {
-        let _cut_short = write_out(second, out);
+    match write_all(out, first) {
+        Ok(()) => {
+            let _cut_short = write_out(second, out);
+        }
+        Err(_) => {}
     }
 }
 
