@@ -10,20 +10,11 @@ use std::alloc::Global;
 #[derive(Drop)]
 pub enum BuiltCommand {
     /// `analyse FILE [--budget N]`: the table of a program, by at most `budget` turns.
-    Analyse {
-        file: Text,
-        budget: u64,
-    },
+    Analyse { file: Text, budget: u64 },
     /// `run FILE SCHEDULE`: one run of a program, by the choices of a schedule.
-    Run {
-        file: Text,
-        schedule: Text,
-    },
+    Run { file: Text, schedule: Text },
     /// `load NUMBER [--functions N]`: a generated program of so many functions.
-    Load {
-        number: u64,
-        functions: u32,
-    },
+    Load { number: u64, functions: u32 },
 }
 
 /// What the words ask for; `None` exactly where they have no reading, or ask for a command that isn't

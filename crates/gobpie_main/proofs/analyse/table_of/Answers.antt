@@ -12,7 +12,7 @@ returns-in_ok-bytes-in-Clean c = λ text of_text.
       c.args.source,
       of_text,
       solved_completes c.in_ok-job.job c.args.source c.in_ok-job.ensures.source c.in_ok-job.ensures.start c.trees_are_shown.ensures c.requires c.args.budget solved c.in_ok-bytes-in-Clean.bytes.items
-      (c.in-Clean.ensures.clean solved refl) (c.in-Clean.ensures.shaped solved refl) (c.in-Clean.ensures.post_solution solved refl sound) c.in_ok-bytes-in-Clean.ensures,
+          (c.in-Clean.ensures.clean solved refl) (c.in-Clean.ensures.shaped solved refl) (c.in-Clean.ensures.post_solution solved refl sound) c.in_ok-bytes-in-Clean.ensures,
     )
 
 pub returns-in-Spent : goal.returns-in-Spent
