@@ -1,13 +1,9 @@
 -- What loads say.
-use Rattle.std.proofs.Common.{◌≡◌, refl, inr, subst, le_refl, ℕ, ◌+◌, ◌<◌, ◌≤◌, List, length, replicate, Option, None, Some, arith}
+use Rattle.std.proofs.Common.{◌≡◌, refl, inr, subst, le_refl, ℕ, ◌+◌, ◌<◌, List, length, replicate, Option, None, Some, arith}
 use Rattle.std.specs.Prelude.{IfSome, IsSomeAnd}
-use Rattle.std.specs.Global.{Vec}
 use Rattle.std.proofs.lemmas.List.{length-replicate}
-use Rattle.gob_outside.proofs.Rising.{Rose-after, Rose-before}
 use Rattle.gob_outside.specs.Files.{FilesNow, IsLongerThan, IsTextOf}
-use Rattle.gobpie_main.specs.Loading.{AsksFor, IsLoadFault, IsLoadOf, LoadsText}
-use Rattle.gobpie_main.specs.declared.fault.Fault.{Fault}
-use Rattle.gobpie_main.specs.declared.fault.Fault.TheVariants.{Usage, ReadFault, Refused, BadLine, Spent, Memory}
+use Rattle.gobpie_main.specs.Loading.{AsksFor, LoadsText}
 
 -- ---- a file over the limit has a text over the limit, where the files tell none some text
 
@@ -33,25 +29,6 @@ asks_nothing file files = record {
   never_fall = λ other. le_refl (files.faults other);
   kept = refl;
 }
-
-module _ (file : List ℕ) (before between after : FilesNow) where
-  -- the fault of the first load, after the second
-  pub fault_before : (fault : Fault) (other : List ℕ) → IsLoadFault file before between fault → AsksFor other between after → IsLoadFault file before after fault
-  fault_before Usage other is second = absurd is
-  fault_before ReadFault other is second = Rose-before (before.faults file) (between.faults file) (after.faults file) is (second.never_fall file)
-  fault_before (Refused fault) other is second = absurd is
-  fault_before (BadLine line) other is second = absurd is
-  fault_before (Spent turns) other is second = absurd is
-  fault_before Memory other is second = tt
-
-  -- the fault of the second load
-  pub fault_after : (fault : Fault) (other : List ℕ) → AsksFor other before between → IsLoadFault file between after fault → IsLoadFault file before after fault
-  fault_after Usage other first is = absurd is
-  fault_after ReadFault other first is = Rose-after (before.faults file) (between.faults file) (after.faults file) (first.never_fall file) is
-  fault_after (Refused fault) other first is = absurd is
-  fault_after (BadLine line) other first is = absurd is
-  fault_after (Spent turns) other first is = absurd is
-  fault_after Memory other first is = tt
 
 -- a text that the second load found was there before the first
 pub text_before : (before between : FilesNow) (other file : List ℕ) (text : List ℕ) → AsksFor other before between → IsTextOf between file text → IsTextOf before file text
