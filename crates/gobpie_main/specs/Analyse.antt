@@ -1,5 +1,5 @@
 -- What `analyse` answers for a file under a budget of turns.
-use Rattle.std.specs.Prelude.{◌≡◌, ◌≢◌, ◌⊎◌, ℕ, ◌≤◌, List, [], ◌++◌, length, codes, IfErr, IsErrAnd, Ok as Good, Err as Bad}
+use Rattle.std.specs.Prelude.{◌≡◌, ◌≢◌, ◌⊎◌, ℕ, ◌≤◌, List, [], ◌++◌, length, codes, IsErrAnd, Ok as Good, Err as Bad}
 use Rattle.gob_tree.specs.declared.graph.Program.{Program}
 use Rattle.gob_outside.specs.Files.{FilesNow, IsTextOf}
 use Rattle.c_meaning.specs.Config.{Config}
@@ -21,7 +21,8 @@ use Rattle.gobpie_main.specs.declared.fault.Fault.TheVariants.{Usage, ReadFault,
 -- whatever the schedule and the inputs, the table shows each moment of each run of the source's text
 abbrev pub ShowsRuns : Source → TableValue → Type 0
 ShowsRuns source table =
-    (choices : List Choice) (c : Config Frame) → IsRun source.unit choices c → IsShown source.unit table choices c
+    (choices : List Choice) (c : Config Frame) → IsRun source.unit choices c
+    → IsShown source.unit table choices c
 
 -- The bytes are the printed table of a post-solution of the source's program, which at most `budget`
 -- recorded turns give from the initial table and in which nothing is left to do, and `complete`. The
@@ -29,7 +30,8 @@ ShowsRuns source table =
 pub record Completes (source : Source) (budget : ℕ) (bytes : List ℕ) : Type 0 where
   pub trace : List Unknown
   pub table : TableValue
-  pub replayed : Replays source.program (initial_of source.program) trace (record { table = table; dirty = [] })
+  pub replayed : Replays source.program (initial_of source.program) trace
+      (record { table = table; dirty = [] })
   pub within_budget : length trace ≤ budget
   pub post_solution : IsPostSolution source.program table
   pub shows_runs : ShowsRuns source table
@@ -45,7 +47,8 @@ pub record Spends (p : Program) (budget : ℕ) : Type 0 where
 
 -- the text has a source, of whose program the bytes print the solved table
 abbrev pub TextCompletes : List ℕ → ℕ → List ℕ → Type 0
-TextCompletes text budget bytes = (source : Source) × IsSourceOf text source × Completes source budget bytes
+TextCompletes text budget bytes =
+    (source : Source) × IsSourceOf text source × Completes source budget bytes
 
 abbrev pub TextSpends : List ℕ → ℕ → Type 0
 TextSpends text budget = (source : Source) × IsSourceOf text source × Spends source.program budget

@@ -11,7 +11,8 @@ abbrev pub IsWordsOf : Option (List (List ℕ)) → List (List ℕ) → Type 0
 IsWordsOf told words = IfSome told (λ all. words ≡ drop 1 all)
 
 -- the exit status is the number of the status that answers the words among the arguments
-pub record AnswersArguments (told : Option (List (List ℕ))) (exit : ℕ) (files files' : FilesNow) (sink sink' : SinkNow) : Type 0 where
+pub record AnswersArguments (told : Option (List (List ℕ))) (exit : ℕ)
+    (files files' : FilesNow) (sink sink' : SinkNow) : Type 0 where
   pub words : List (List ℕ)
   pub status : Status
   pub words_are : IsWordsOf told words

@@ -27,7 +27,8 @@ Answers (Some (Load number functions)) answer before after =
     AnswersLoad number functions answer × (after ≡ before)
 
 -- what the words ask for was answered over the files, and the sink and the status tell the answer
-pub record AnswersWords (words : List Word) (status : Status) (files files' : FilesNow) (sink sink' : SinkNow) : Type 0 where
+pub record AnswersWords (words : List Word) (status : Status)
+    (files files' : FilesNow) (sink sink' : SinkNow) : Type 0 where
   pub answer : Answer
   pub answers : Answers (command_of words) answer files files'
   pub told : Tells answer status sink sink'

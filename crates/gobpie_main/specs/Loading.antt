@@ -29,7 +29,8 @@ IsLoadOf limit text (Some bytes) = bytes.items ≡ text
 
 -- that was loaded of a text of this name, the file's own where the files tell it
 abbrev pub LoadsText : FilesNow → List ℕ → ℕ → Option (Vec ℕ) → Type 0
-LoadsText files name limit found = (text : List ℕ) × IsTextOf files name text × IsLoadOf limit text found
+LoadsText files name limit found =
+    (text : List ℕ) × IsTextOf files name text × IsLoadOf limit text found
 
 -- why a file wasn't loaded: its count of faults rose, or memory was wanting
 abbrev pub IsLoadFault : List ℕ → FilesNow → FilesNow → Fault → Type 0

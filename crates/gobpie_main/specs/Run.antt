@@ -34,11 +34,13 @@ IsScheduleFault schedule Memory = Unit {0}
 -- the bytes are the lines of the unit's run by the choices of the schedule
 abbrev pub Runs : TranslationUnit → List ℕ → List ℕ → Type 0
 Runs unit schedule bytes =
-    (choices : List Choice) × (schedule_in schedule ≡ Good choices) × (bytes ≡ run_lines unit choices)
+    (choices : List Choice) × (schedule_in schedule ≡ Good choices)
+    × (bytes ≡ run_lines unit choices)
 
 -- the first text has a source, of whose unit the bytes are the lines of a run by the second
 abbrev pub TextRuns : List ℕ → List ℕ → List ℕ → Type 0
-TextRuns text schedule bytes = (source : Source) × IsSourceOf text source × Runs source.unit schedule bytes
+TextRuns text schedule bytes =
+    (source : Source) × IsSourceOf text source × Runs source.unit schedule bytes
 
 -- all that may be answered of a text and a schedule
 abbrev pub IsRunOf : List ℕ → List ℕ → Answer → Type 0

@@ -26,7 +26,8 @@ Said before after bytes = Wrote before after bytes ⊎ CutShort before after byt
 -- Ok where just these lines were written; WriteFault where a write failed and they were cut short
 abbrev pub TellsLines : List ℕ → Status → SinkNow → SinkNow → Type 0
 TellsLines lines status before after =
-    ((status ≡ Ok) × Wrote before after lines) ⊎ ((status ≡ WriteFault) × CutShort before after lines)
+    ((status ≡ Ok) × Wrote before after lines)
+    ⊎ ((status ≡ WriteFault) × CutShort before after lines)
 
 -- the status of the fault, where the lines and then the fault's line were said
 abbrev pub Ends : List ℕ → Fault → Status → SinkNow → SinkNow → Type 0

@@ -59,7 +59,8 @@ fn table_of(alloc: Global, source: Source, budget: u64) -> Answer
     }
 }
 
-/// The job to solve the table of a source's program from its initial one. `Memory` is want of memory.
+/// The job to solve the table of a source's program from its initial one. `Memory` is want of
+/// memory.
 fn job_of(alloc: Global, source: Source) -> Result<Job, Memory>
     requires { IsFormed source.program }
     ensures source { IfOk result (λ job. arc_value job.source ≡ source) }

@@ -1,5 +1,5 @@
 //! The commands that wait for nobody.
-ghost use Rattle.std.specs.Prelude.{◌≡◌, Some};
+ghost use Rattle.std.specs.Prelude.{Some};
 ghost use Rattle.gobpie_main.specs.Batch.{Answers, AnswersWords};
 ghost use Rattle.gobpie_main.specs.Command.{IsProper, command_of};
 

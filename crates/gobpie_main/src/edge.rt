@@ -51,8 +51,8 @@ fn is_debug<A: Arguments>(alloc: Global, arguments: &A) -> Result<bool, Memory>
     }
 }
 
-/// The program, over the arguments and files of the system. It writes to `out`; where the first word is
-/// `debug`, to `error`, since standard output is then the session's.
+/// The program, over the arguments and files of the system. It writes to `out`; where the first word
+/// is `debug`, to `error`, since standard output is then the session's.
 pub fn program<R: Env + FileAccess + AllocGlobal, O: Write + Drop, E: Write + Drop>(
     rt: &R,
     out: O,

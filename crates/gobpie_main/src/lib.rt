@@ -1,6 +1,6 @@
 //! The top call: what a line of words asks for, done over files and a sink, with a status for each
-//! way to end; and the edge at which the system gives the words and takes the exit status. A command
-//! computes its answer over files alone, and one call tells it.
+//! way to end; and the edge at which the system gives the words and takes the exit status. A
+//! command computes its answer over files alone, and one call tells it.
 #![tactic(auto)]
 
 mod analyse;

@@ -10,8 +10,8 @@ use gob_tree::Memory;
 use load_tables::{LoadStop, Loaded, TURNS, load_tables};
 use std::alloc::Global;
 
-/// Solves the generated text of a number with so many functions and its eight edits, each from what the
-/// table before it leaves. Its lines are the counts and the global lines of the last table.
+/// Solves the generated text of a number with so many functions and its eight edits, each from what
+/// the table before it leaves. Its lines are the counts and the global lines of the last table.
 pub fn load(alloc: Global, number: u64, functions: u32) -> Answer
     requires { IsFewFunctions functions }
     ensures { AnswersLoad number functions result }

@@ -38,12 +38,14 @@ pub fn load<F: Files>(
     }
 }
 
-/// The source of a text that was loaded. Its faults are `Refused`, at the first fault of the text, and
-/// `Memory`.
+/// The source of a text that was loaded. Its faults are `Refused`, at the first fault of the text,
+/// and `Memory`.
 pub fn source_in(alloc: Global, found: Option<Vec<u8>>) -> Result<Source, Fault>
-    ensures source { (text : List ℕ) → IsLoadOf TEXT_LIMIT text found → IfOk result (IsSourceOf text) }
+    ensures source { (text : List ℕ) → IsLoadOf TEXT_LIMIT text found
+        → IfOk result (IsSourceOf text) }
     ensures analysable { IfOk result IsAnalysable }
-    ensures fault { (text : List ℕ) → IsLoadOf TEXT_LIMIT text found → IfErr result (IsSourceFault text) }
+    ensures fault { (text : List ℕ) → IsLoadOf TEXT_LIMIT text found
+        → IfErr result (IsSourceFault text) }
 {
     match found {
         Some(text) => source_of(alloc, text.as_slice()),

@@ -15,8 +15,8 @@ use std::alloc::Global;
 /// The greatest number of bytes of a schedule.
 pub const SCHEDULE_LIMIT: usize = 4_194_304;
 
-/// The lines of the run of the file's program by the choices of the schedule. Both are loaded, whatever
-/// the load of the file gives.
+/// The lines of the run of the file's program by the choices of the schedule. Both are loaded,
+/// whatever the load of the file gives.
 pub fn run_file<F: Files>(alloc: Global, file: &Text, schedule: &Text, files: &mut F) -> Answer
     requires file { IsUtf8 file.now }
     requires schedule { IsUtf8 schedule.now }
@@ -40,8 +40,8 @@ fn run_text(alloc: Global, text: Option<Vec<u8>>, schedule: Option<Vec<u8>>) -> 
     Ok(lines)
 }
 
-/// The choices of a schedule that was loaded. Its faults are `BadLine`, with the first bad line or 0
-/// where the schedule is too long, and `Memory`.
+/// The choices of a schedule that was loaded. Its faults are `BadLine`, with the first bad line or
+/// 0 where the schedule is too long, and `Memory`.
 fn choices_in(alloc: Global, schedule: Option<Vec<u8>>) -> Result<Seq<Choice>, Fault>
     requires { IfSome schedule (λ bytes. vec_len bytes ≤ SCHEDULE_LIMIT) }
     ensures choices { (text : List ℕ) → IsLoadOf SCHEDULE_LIMIT text schedule

@@ -1,5 +1,5 @@
 //! What a command answers is written, as far as the sink takes it, and gives its status.
-ghost use Rattle.std.specs.Prelude.{◌≡◌, ◌++◌, OnErr, OnOk};
+ghost use Rattle.std.specs.Prelude.{◌++◌, OnErr, OnOk};
 ghost use Rattle.gobpie_main.specs.Tell.{CutShort, Said, Tells, TellsFault, TellsLines, Wrote};
 
 use crate::fault::{Answer, Fault};

@@ -17,8 +17,8 @@ pub enum BuiltCommand {
     Load { number: u64, functions: u32 },
 }
 
-/// What the words ask for; `None` exactly where they have no reading, or ask for a command that isn't
-/// built. `Memory` is want of memory.
+/// What the words ask for; `None` exactly where they have no reading, or ask for a command that
+/// isn't built. `Memory` is want of memory.
 pub fn command_of(alloc: Global, words: &[Text]) -> Result<Option<BuiltCommand>, Memory>
     ensures reading { IfOk result (λ o. o ≡ command_of words.now) }
     ensures proper { IfOk result (λ o. IfSome o IsProper) }
