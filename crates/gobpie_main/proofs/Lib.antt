@@ -1,4 +1,3 @@
-pub mod Accepting
 mod Answering
 pub mod Asked
 mod Loads

@@ -4,11 +4,6 @@ use Rattle.std.specs.Global.{Vec}
 use Rattle.gob_outside.specs.Count.{Rose}
 use Rattle.gob_outside.specs.Faults.{Asks}
 use Rattle.gob_outside.specs.Files.{FilesNow, IsTextOf}
-use Rattle.gob_tree.specs.Formed.{IsFormed}
-use Rattle.gob_tree.specs.WellMade.{IsWellMade}
-use Rattle.c_meaning.specs.Graph.{program_of}
-use Rattle.c_source.specs.declared.source.Source.{Source}
-use Rattle.graph_law.specs.Forming.{IsWithinSizes}
 use Rattle.c_check.specs.Front.{IsFirstOf}
 use Rattle.c_check.specs.declared.fault.FrontFault.{FrontFault}
 use Rattle.c_check.specs.declared.fault.FrontKind.TheVariants as kinds
@@ -54,10 +49,3 @@ IsSourceFault text (Refused fault) = IsRefusedBy text fault
 IsSourceFault text (BadLine line) = ⊥
 IsSourceFault text (Spent turns) = ⊥
 IsSourceFault text Memory = Unit {0}
-
--- What an analysis asks of a source: a well-made unit within the sizes, and that unit's own program.
-pub record IsAnalysable (source : Source) : Type 0 where
-  pub made : IsWellMade source.unit
-  pub sizes : IsWithinSizes source.unit
-  pub program : source.program ≡ program_of source.unit
-  pub formed : IsFormed source.program

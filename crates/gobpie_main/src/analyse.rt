@@ -8,7 +8,7 @@ ghost use Rattle.constraint_sys.specs.Turn.{initial_of};
 ghost use Rattle.edition_core.specs.Printed.{printed};
 ghost use Rattle.td_solver.specs.Ending.{start_of_job};
 ghost use Rattle.gobpie_main.specs.Analyse.{AnswersAnalyse, IsAnalysisOf};
-ghost use Rattle.gobpie_main.specs.Loading.{AsksFor, IsAnalysable, IsLoadOf};
+ghost use Rattle.gobpie_main.specs.Loading.{AsksFor, IsLoadOf};
 
 use crate::fault::{Answer, Fault};
 use crate::loading::{load, source_in};
@@ -43,11 +43,11 @@ fn table_in(alloc: Global, found: Option<Vec<u8>>, budget: u64) -> Answer
 
 /// The table of a source's program, and `complete`.
 fn table_of(alloc: Global, source: Source, budget: u64) -> Answer
-    requires { IsAnalysable source }
     ensures { (text : List ℕ) → IsSourceOf text source → IsAnalysisOf text budget result }
 {
-    // the law by which a table shows the runs
+    // the law by which a table shows the runs, and what it asks of a source
     trees_are_shown();
+    source.is_analysable();
     let job = job_of(alloc, source)?;
     match solve(alloc, job, budget) {
         Outcome::Clean(solved) => {

@@ -3,7 +3,7 @@ ghost use Rattle.std.specs.Prelude.{◌≡◌, ◌≤◌, ℕ, List, IfOk, IfErr
 ghost use Rattle.c_check.specs.Faults.{fault_at, whole_text};
 ghost use Rattle.c_check.specs.Front.{IsSourceOf};
 ghost use Rattle.c_check.specs.declared.fault.FrontKind.TheVariants.{TooLong};
-ghost use Rattle.gobpie_main.specs.Loading.{AsksFor, IsAnalysable, IsLoadFault, IsLoadOf, IsSourceFault, LoadsText};
+ghost use Rattle.gobpie_main.specs.Loading.{AsksFor, IsLoadFault, IsLoadOf, IsSourceFault, LoadsText};
 
 use crate::fault::Fault;
 use c_check::{FrontFault, FrontKind, front};
@@ -43,7 +43,6 @@ pub fn load<F: Files>(
 pub fn source_in(alloc: Global, found: Option<Vec<u8>>) -> Result<Source, Fault>
     ensures source { (text : List ℕ) → IsLoadOf TEXT_LIMIT text found
         → IfOk result (IsSourceOf text) }
-    ensures analysable { IfOk result IsAnalysable }
     ensures fault { (text : List ℕ) → IsLoadOf TEXT_LIMIT text found
         → IfErr result (IsSourceFault text) }
 {
@@ -66,7 +65,6 @@ fn too_long() -> FrontFault
 /// The source of a text.
 fn source_of(alloc: Global, text: &[u8]) -> Result<Source, Fault>
     ensures source { IfOk result (IsSourceOf text.now) }
-    ensures analysable { IfOk result IsAnalysable }
     ensures fault { IfErr result (IsSourceFault text.now) }
 {
     match front(alloc, text) {

@@ -3,15 +3,15 @@ use Rattle.gobpie_main.proofs.Solving.{sound_start, solved_completes, spent_spen
 use Rattle.gobpie_main.proofs.analyse.table_of.Goals as goal
 
 pub solve-requires-clause-turnable : goal.solve-requires-clause-turnable
-solve-requires-clause-turnable c = turnable_start c.in_ok-job.job c.args.source c.in_ok-job.ensures.source c.in_ok-job.ensures.start c.requires.formed
+solve-requires-clause-turnable c = turnable_start c.in_ok-job.job c.args.source c.in_ok-job.ensures.source c.in_ok-job.ensures.start c.is_analysable.ensures.formed
 
 pub returns-in_ok-bytes-in-Clean : goal.returns-in_ok-bytes-in-Clean
 returns-in_ok-bytes-in-Clean c = λ text of_text.
     let solved = c.in-Clean.solved in
-    let sound = sound_start c.in_ok-job.job c.args.source c.in_ok-job.ensures.source c.in_ok-job.ensures.start c.requires.formed in (
+    let sound = sound_start c.in_ok-job.job c.args.source c.in_ok-job.ensures.source c.in_ok-job.ensures.start c.is_analysable.ensures.formed in (
       c.args.source,
       of_text,
-      solved_completes c.in_ok-job.job c.args.source c.in_ok-job.ensures.source c.in_ok-job.ensures.start c.trees_are_shown.ensures c.requires c.args.budget solved c.in_ok-bytes-in-Clean.bytes.items
+      solved_completes c.in_ok-job.job c.args.source c.in_ok-job.ensures.source c.in_ok-job.ensures.start c.trees_are_shown.ensures c.is_analysable.ensures c.args.budget solved c.in_ok-bytes-in-Clean.bytes.items
           (c.in-Clean.ensures.clean solved refl) (c.in-Clean.ensures.shaped solved refl) (c.in-Clean.ensures.post_solution solved refl sound) c.in_ok-bytes-in-Clean.ensures,
     )
 
