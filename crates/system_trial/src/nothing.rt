@@ -1,4 +1,4 @@
-use crate::{Dirty, Table, Unknown};
+use constraint_sys::{Dirty, Table, Unknown};
 use std::test::Fail;
 
 #[test]

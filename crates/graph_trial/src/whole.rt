@@ -1,17 +1,13 @@
-use crate::{BuildFault, build, silent_edges};
+//! Whole functions: the ends of their edges, the silent ones among these, and the greatest that are
+//! built.
+use crate::build_up::{at, binary, int};
+use cfg_build::{BuildFault, build, silent_edges};
 use gob_tree::{
     BinOp, Boxed, Edge, Expr, FuncKind, Function, Memory, Place, Placed, Seq, Slot, Stmt, Target,
     Text, Width,
 };
 use std::alloc::Global;
 use std::test::Fail;
-
-fn at(line: u32, stmt: Stmt) -> Placed {
-    Placed {
-        place: Place { line, column: 3 },
-        stmt,
-    }
-}
 
 fn function_of(alloc: Global, slots: usize, body: Seq<Placed>) -> Result<Function, Memory> {
     let mut list = Seq::new(alloc);
@@ -34,14 +30,6 @@ fn function_of(alloc: Global, slots: usize, body: Seq<Placed>) -> Result<Functio
     })
 }
 
-fn int(n: i64) -> Expr {
-    Expr::Number(n, Width::W32)
-}
-
-fn binary(alloc: Global, op: BinOp, a: Expr, b: Expr) -> Result<Expr, Memory> {
-    Ok(Expr::Binary(op, Boxed::new(alloc, a)?, Boxed::new(alloc, b)?))
-}
-
 fn ends(alloc: Global, edges: &[Edge]) -> Result<Seq<(u16, u16)>, Memory> {
     let mut list = Seq::new(alloc);
     for edge in edges {
@@ -53,14 +41,14 @@ fn ends(alloc: Global, edges: &[Edge]) -> Result<Seq<(u16, u16)>, Memory> {
 fn empties(alloc: Global, count: usize) -> Result<Seq<Placed>, Memory> {
     let mut body = Seq::new(alloc);
     for _ in 0..count {
-        body.push(at(2, Stmt::Empty))?;
+        body.push(at(2, 3, Stmt::Empty))?;
     }
     Ok(body)
 }
 
 fn returning(alloc: Global, value: Expr) -> Result<Seq<Placed>, Memory> {
     let mut body = Seq::new(alloc);
-    body.push(at(2, Stmt::Return(Some(value))))?;
+    body.push(at(2, 3, Stmt::Return(Some(value))))?;
     Ok(body)
 }
 
@@ -69,11 +57,11 @@ fn a_while_loop(rt: HostRuntime) -> Result<(), Fail> {
     let alloc = rt.alloc();
     let test = binary(alloc, BinOp::Lt, Expr::Local(1), int(10))?;
     let next = binary(alloc, BinOp::Add, Expr::Local(1), int(1))?;
-    let step = at(3, Stmt::Assign(Target::Local(1), next));
+    let step = at(3, 3, Stmt::Assign(Target::Local(1), next));
     let mut body = Seq::new(alloc);
-    body.push(at(2, Stmt::Declare(1, Some(int(0)))))?;
-    body.push(at(3, Stmt::While(test, Boxed::new(alloc, step)?)))?;
-    body.push(at(4, Stmt::Return(Some(Expr::Local(1)))))?;
+    body.push(at(2, 3, Stmt::Declare(1, Some(int(0)))))?;
+    body.push(at(3, 3, Stmt::While(test, Boxed::new(alloc, step)?)))?;
+    body.push(at(4, 3, Stmt::Return(Some(Expr::Local(1)))))?;
     let function = function_of(alloc, 2, body)?;
     let graph = build(alloc, &function)?;
     let ends = ends(alloc, graph.edges.as_slice())?;

@@ -1,4 +1,5 @@
-use crate::{FrameFault, Framer, frame};
+//! Bytes with the messages that they carry, worked out by hand.
+use dap_frame::{FrameFault, Framer, frame};
 use std::alloc::AllocError;
 use std::test::Fail;
 

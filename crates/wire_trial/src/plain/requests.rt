@@ -1,4 +1,4 @@
-use crate::{WireFault, read_request};
+use dap_wire::{WireFault, read_request};
 use std::alloc::AllocError;
 use std::test::Fail;
 

@@ -1,7 +1,7 @@
 ghost use Rattle.dap_wire.specs.MessageTexts.{IsBodyText, IsEventText, IsMessageText};
 
-use crate::tests::text;
-use crate::{
+use crate::texts::text;
+use dap_wire::{
     BreakInfo, EventBody, FrameInfo, Judgement, Message, Reason, ReplyBody, ThreadInfo,
     VariableInfo, write_message,
 };
