@@ -4,9 +4,7 @@ ghost use Rattle.std.specs.Arc.{arc_value};
 ghost use Rattle.gob_tree.specs.Formed.{IsFormed};
 ghost use Rattle.c_check.specs.Front.{IsSourceOf};
 ghost use Rattle.constraint_sys.specs.Sound.{IsShaped};
-ghost use Rattle.constraint_sys.specs.Turn.{initial_of};
 ghost use Rattle.edition_core.specs.Printed.{printed};
-ghost use Rattle.td_solver.specs.Ending.{start_of_job};
 ghost use Rattle.gobpie_main.specs.Analyse.{AnswersAnalyse, IsAnalysisOf};
 ghost use Rattle.gobpie_main.specs.Loading.{AsksFor, IsLoadOf};
 
@@ -14,12 +12,10 @@ use crate::fault::{Answer, Fault};
 use crate::loading::{load, source_in};
 use c_lex::TEXT_LIMIT;
 use c_source::Source;
-use constraint_sys::initial;
 use edition_core::print_table;
 use gob_outside::Files;
 use gob_tree::{Memory, Text};
 use std::alloc::Global;
-use std::sync::Arc;
 use td_solver::{Job, Outcome, Solved, solve};
 use tree_law::trees_are_shown;
 
@@ -48,7 +44,7 @@ fn table_of(alloc: Global, source: Source, budget: u64) -> Answer
     // the law by which a table shows the runs, and what it asks of a source
     trees_are_shown();
     source.is_analysable();
-    let job = job_of(alloc, source)?;
+    let job = Job::of(alloc, source)?;
     match solve(alloc, job, budget) {
         Outcome::Clean(solved) => {
             let bytes = print_complete(alloc, &solved)?;
@@ -57,23 +53,6 @@ fn table_of(alloc: Global, source: Source, budget: u64) -> Answer
         Outcome::Spent(_run) => Err(Fault::Spent(budget)),
         Outcome::Memory => Err(Fault::Memory),
     }
-}
-
-/// The job to solve the table of a source's program from its initial one. `Memory` is want of
-/// memory.
-fn job_of(alloc: Global, source: Source) -> Result<Job, Memory>
-    requires { IsFormed source.program }
-    ensures source { IfOk result (λ job. arc_value job.source ≡ source) }
-    ensures start { IfOk result (λ job. start_of_job job ≡ initial_of source.program) }
-{
-    let (table, dirty) = initial(alloc, source.program())?;
-    let source = Arc::new(alloc, source)?;
-    Ok(Job {
-        number: 1,
-        source,
-        table,
-        dirty,
-    })
 }
 
 /// The printed table, and `complete`. `Memory` is want of memory.

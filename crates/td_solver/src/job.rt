@@ -1,6 +1,5 @@
 ghost use Rattle.std.specs.Prelude.{◌≡◌, IfOk};
 ghost use Rattle.std.specs.Arc.{arc_value};
-ghost use Rattle.gob_tree.specs.Formed.{IsFormed};
 ghost use Rattle.constraint_sys.specs.Turn.{initial_of};
 ghost use Rattle.td_solver.specs.Ending.{start_of_job};
 
@@ -25,11 +24,11 @@ impl Job {
     /// The first job of a source: its program's initial table is to be solved. `Memory` is want of
     /// memory.
     pub fn of(alloc: Global, source: Source) -> Result<Job, Memory>
-        requires { IsFormed source.program }
         ensures first { IfOk result (λ job. job.number ≡ 1) }
         ensures source { IfOk result (λ job. arc_value job.source ≡ source) }
         ensures start { IfOk result (λ job. start_of_job job ≡ initial_of source.program) }
     {
+        source.is_analysable();
         let (table, dirty) = initial(alloc, source.program())?;
         Job::from_table(alloc, source, table, dirty)
     }
