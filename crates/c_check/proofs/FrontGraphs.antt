@@ -1,5 +1,5 @@
 -- The sizes of graphs, as they are found function by function.
-use Rattle.std.proofs.Common.{◌≡◌, refl, sym, ap, ◌∙◌, subst, ℕ, ◌+◌, ◌-◌, ◌<◌, ◌≤◌, ◌⊎◌, inl, inr, Bool, true, false, List, [], ◌∷◌, ◌++◌, length, nat_le, get_or, drop, drop-cons, add-one, arith}
+use Rattle.std.proofs.Common.{◌≡◌, refl, sym, ap, ◌∙◌, subst, ℕ, ◌+◌, ◌-◌, ◌<◌, ◌≤◌, ◌⊎◌, inl, inr, Bool, true, false, List, [], ◌++◌, length, nat_le, get_or, drop, drop-cons, add-one, arith}
 use Rattle.std.proofs.lemmas.Bool.{lt-leb, leb-true}
 use Rattle.gob_tree.specs.declared.place.Place.{Place}
 use Rattle.gob_tree.specs.declared.unit.Function.{Function}
@@ -9,7 +9,7 @@ use Rattle.c_check.specs.declared.fault.FrontFault.{FrontFault}
 use Rattle.c_check.specs.declared.fault.FrontKind.TheVariants.{Limit}
 use Rattle.c_check.specs.Faults.{fault_at, asks, IsFirst, first}
 use Rattle.c_check.specs.Front.{size_faults, graph_faults}
-use Rattle.c_check.proofs.Firsts.{first_left, first_right}
+use Rattle.c_check.proofs.Firsts.{first_left}
 
 sized : (slots nodes : Bool) (place : Place) → (slots ≡ false) ⊎ (nodes ≡ false) → IsFirst (fault_at Limit place) (asks slots Limit place ++ asks nodes Limit place)
 sized false nodes place h = first

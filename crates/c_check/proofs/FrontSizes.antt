@@ -1,5 +1,5 @@
 -- A tree without a fault has a unit and graphs within the sizes that an analysis takes.
-use Rattle.std.proofs.Common.{◌≡◌, refl, sym, ap, ◌∙◌, ℕ, ◌+◌, ◌-◌, ◌≤◌, Bool, true, false, if◌then◌else◌, List, [], ◌∷◌, ◌++◌, length, map, flat_map, drop, sum, All, arith, length-append, length-drop}
+use Rattle.std.proofs.Common.{◌≡◌, refl, ap, ℕ, ◌+◌, ◌-◌, ◌≤◌, Bool, true, false, if◌then◌else◌, List, [], ◌∷◌, ◌++◌, length, map, flat_map, drop, sum, arith, length-append, length-drop}
 use Rattle.std.specs.List.{AllByRecursion}
 use Rattle.std.proofs.lemmas.List.{length-map}
 use Rattle.std.proofs.lemmas.List.Elements.{All-from_recursion}
@@ -17,7 +17,7 @@ use Rattle.graph_law.specs.Forming.{IsWithinSizes}
 use Rattle.graph_law.proofs.Forming.{programs_are_formed}
 use Rattle.c_check.specs.Spelled.{IsSpelled}
 use Rattle.c_check.specs.Front.{size_faults, graph_faults, tree_faults}
-use Rattle.c_check.specs.Units.{over, function_place, global_place, mutex_place, param_place, param_limit_faults, limit_faults, function_of, Made, after_item, after_items, nothing_made, items_faults, no_main_faults, unit_faults, unit_of}
+use Rattle.c_check.specs.Units.{over, function_place, global_place, mutex_place, param_place, param_limit_faults, function_of, Made, after_item, after_items, nothing_made, items_faults, no_main_faults, unit_faults, unit_of}
 use Rattle.c_check.proofs.FrontGraphs.{sizes_kept}
 use Rattle.c_check.proofs.WellMade.{made_unit}
 use Rattle.c_check.proofs.WellMadeFunctions.{each_append}

@@ -1,5 +1,5 @@
 -- Where `main` is.
-use Rattle.std.proofs.Common.{◌≡◌, refl, sym, ap, ◌∙◌, subst, ℕ, ◌+◌, Bool, true, false, cond, List, [], ◌∷◌, ◌<◌, length, drop, get_or, add_assoc, add-zero}
+use Rattle.std.proofs.Common.{◌≡◌, sym, ap, ◌∙◌, ℕ, ◌+◌, Bool, true, false, cond, List, ◌∷◌, ◌<◌, length, drop, get_or, add_assoc, add-zero}
 use Rattle.std.specs.Prelude.{◌||◌, not}
 use Rattle.std.specs.List.{position_or_len, list_any}
 use Rattle.gob_tree.specs.declared.unit.Function.{Function}

@@ -1,5 +1,5 @@
 -- Maps from names beside lists of entries: what is found after a name is put in, and where an entry stands.
-use Rattle.std.proofs.Common.{◌≡◌, refl, sym, ap, ◌∙◌, ℕ, suc, ◌+◌, ◌-◌, Bool, true, false, true≢false, cond, List, [], ◌∷◌, ◌++◌, length, length-append, map, reverse, drop, Option, Some, None, is_some, bytes_eq, inl, inr, arith, add-zero, zero-add, subst}
+use Rattle.std.proofs.Common.{◌≡◌, refl, sym, ap, ◌∙◌, ℕ, suc, ◌+◌, ◌-◌, Bool, true, false, true≢false, cond, List, [], ◌∷◌, ◌++◌, length, length-append, reverse, drop, Option, Some, None, is_some, bytes_eq, inl, inr, arith, add-zero, zero-add}
 use Rattle.std.specs.Global.{Vec}
 use Rattle.std.proofs.lemmas.Bool.{cases_Bool}
 use Rattle.std.proofs.lemmas.List.{reverse-append, reverse-reverse}
@@ -11,7 +11,7 @@ use Rattle.indexmap.specs.IndexMap.{insert_entry}
 use Rattle.c_check.specs.declared.meaning.Declared.{Declared}
 use Rattle.c_check.specs.declared.visible.Hiding.{Hiding}
 use Rattle.c_check.specs.Names.{named, begins_in, without_block}
-use Rattle.c_check.specs.Tables.{at_name, first_of, KnowsFirsts, declarations, KnowsLatest, AreSeen}
+use Rattle.c_check.specs.Tables.{at_name, first_of, KnowsFirsts, declarations, AreSeen}
 
 same : (x y : List ℕ) → bytes_eq x y ≡ true → x ≡ y
 same x y h = (bytes_eq-Decides x y).0 h

@@ -1,9 +1,8 @@
 -- Widths compared one by one.
-use Rattle.std.proofs.Common.{◌≡◌, refl, sym, ap, ◌∙◌, ℕ, ◌+◌, ◌<◌, Bool, true, false, ◌&&◌, List, [], ◌∷◌, length, drop}
+use Rattle.std.proofs.Common.{◌≡◌, ap, ◌∙◌, ℕ, ◌+◌, ◌&&◌, List, ◌∷◌, drop}
 use Rattle.std.specs.Cmp.Lexicographic.{pointwise}
 use Rattle.gob_tree.specs.Widths.{same_width}
 use Rattle.gob_tree.specs.declared.expr.Width.{Width}
-use Rattle.c_check.proofs.Listed.{from_here}
 
 pub widths_next : (xs ys : List Width) (i : ℕ) (x y : Width) → drop i xs ≡ x ∷ drop (i + 1) xs → drop i ys ≡ y ∷ drop (i + 1) ys
     → pointwise same_width (drop i xs) (drop i ys) ≡ (same_width x y && pointwise same_width (drop (i + 1) xs) (drop (i + 1) ys))

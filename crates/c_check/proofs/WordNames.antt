@@ -1,10 +1,9 @@
 -- The names of a tree that is spelled so are those of its unit and program: words, and none where a slot has none.
-use Rattle.std.proofs.Common.{◌≡◌, refl, sym, ap, ◌∙◌, subst, ℕ, Bool, true, ◌⊎◌, inl, inr, List, [], ◌∷◌, ◌++◌, map, Option, None, Some, All}
+use Rattle.std.proofs.Common.{◌≡◌, refl, sym, ap, subst, ℕ, Bool, true, inl, inr, List, [], ◌∷◌, map, Option, None, Some, All}
 use Rattle.std.specs.List.{AllByRecursion, list_all}
 use Rattle.std.specs.Option.{option_map_or}
 use Rattle.std.proofs.lemmas.Bool.{and_parts}
 use Rattle.std.proofs.lemmas.List.Elements.{All-from_recursion}
-use Rattle.std.proofs.lemmas.List.Folds.{list_all-map}
 use Rattle.gob_tree.specs.Words.{IsWord, IsWordOrEmpty, AreNamedByWords, HasWordNames}
 use Rattle.gob_tree.specs.declared.expr.Width.{Width}
 use Rattle.gob_tree.specs.declared.graph.FuncGraph.{FuncGraph}

@@ -4,7 +4,6 @@
 -- the unit, and then the sizes of the graphs), the kind and place of each fault, and that a source is the text
 -- itself with its unit and that unit's graphs.
 use Rattle.std.specs.Prelude.{◌≡◌, ℕ, ◌+◌, nat_le, List, [], ◌∷◌, ◌++◌, length}
-use Rattle.gob_tree.specs.declared.place.Place.{Place}
 use Rattle.gob_tree.specs.declared.unit.Function.{Function}
 use Rattle.c_meaning.specs.Graph.{graph_of, program_of}
 use Rattle.c_lex.specs.Places.{place_after}

@@ -1,6 +1,6 @@
 -- Stages of the checks of items, as they are made one after the other.
 use Rattle.std.specs.List.{position_or_len}
-use Rattle.std.specs.Prelude.{Bool, false, not, ◌&&◌, ◌||◌, List, ◌++◌, map, length}
+use Rattle.std.specs.Prelude.{false, not, ◌&&◌, ◌||◌, List, ◌++◌, map}
 use Rattle.gob_tree.specs.declared.place.Place.{Place}
 use Rattle.gob_tree.specs.declared.stmt.Placed.{Placed}
 use Rattle.gob_tree.specs.declared.unit.Function.{Function}

@@ -1,4 +1,4 @@
-use Rattle.std.proofs.Common.{◌≡◌, sym, ap, length, arith}
+use Rattle.std.proofs.Common.{ap, length, arith}
 use Rattle.gob_tree.specs.declared.graph.FuncGraph.{FuncGraph}
 use Rattle.c_check.specs.Front.{size_faults}
 use Rattle.c_check.proofs.Firsts.{want_is_first}

@@ -1,4 +1,4 @@
-use Rattle.std.proofs.Common.{◌≡◌, false, true, is_some, sym, ap, ◌∙◌, cond, Some, bytes_eq, List, ℕ, rules}
+use Rattle.std.proofs.Common.{◌≡◌, false, true, is_some, ap, ◌∙◌, cond, Some, bytes_eq, List, ℕ, rules}
 use Rattle.c_check.specs.Tables.{at_name}
 use Rattle.c_check.proofs.Tables.{put_first, kept_first}
 use Rattle.c_check.proofs.named.note_first.Goals as goal

@@ -8,7 +8,7 @@ use Rattle.c_meaning.specs.Graph.{program_of}
 use Rattle.c_source.specs.declared.source.Source.{Source}
 use Rattle.c_check.specs.Faults.{IsFirst}
 use Rattle.c_check.specs.Front.{graph_faults}
-use Rattle.c_check.specs.Units.{unit_of}
+use Rattle.c_check.proofs.Analysable.{tree_analysable}
 use Rattle.c_check.proofs.FrontPhases.{reads_spelled, unit_refused, graphs_refused, want_refused, no_faults}
 use Rattle.c_check.proofs.FrontSizes.{tree_formed}
 use Rattle.c_check.proofs.phases.source_of.Goals as goal
@@ -33,6 +33,13 @@ pub returns-in_err-text-clause-refused : goal.returns-in_err-text-clause-refused
 returns-in_err-text-clause-refused c =
     let p = err_from_is_err_and c.from_residual-in_err-text.result c.from_residual-in_err-text.ensures.1 in
     rw p.1 (want_refused c.args.text.now p.0 p.2)
+
+pub of-requires-2 : goal.of-requires-2
+of-requires-2 c =
+    let unit = c.in_ok-unit.ensures.checked in
+    let funcs = c.as_slice.ensures ∙ ap (λ (u : TranslationUnit). u.funcs) unit.1 in
+    let none = subst (λ (fs : List Function). graph_faults 0 fs ≡ []) funcs c.in_ok-graphs.ensures.0 in
+    tree_analysable c.args.text.now c.args.raw _ c.requires.read (no_faults c.args.raw unit.0 none) unit.1 (c.in_ok-program.ensures ∙ ap program_of unit.1)
 
 pub returns-clause-formed : goal.returns-clause-formed
 returns-clause-formed c =

@@ -1,4 +1,4 @@
-use Rattle.std.proofs.Common.{◌≡◌, ◌++◌, ◌∷◌, [], List, ℕ, length, cond, Some, None, bytes_eq, sym, ap, ◌∙◌, subst, rules}
+use Rattle.std.proofs.Common.{◌≡◌, ◌++◌, ◌∷◌, [], ℕ, length, cond, Some, None, bytes_eq, sym, ap, ◌∙◌, subst, rules}
 use Rattle.std.specs.Option.{option_or}
 use Rattle.c_check.specs.Tables.{at_name, KnowsFirsts}
 use Rattle.c_check.proofs.Tables.{knows_more}

@@ -1,6 +1,6 @@
-use Rattle.std.proofs.Common.{◌≡◌, ◌∷◌, ◌++◌, [], reverse, cond, Some, bytes_eq, sym, ap, ◌∙◌, subst, List, ℕ, rules}
+use Rattle.std.proofs.Common.{◌≡◌, ◌∷◌, reverse, ap, ◌∙◌, subst, List}
 use Rattle.c_check.specs.declared.visible.Hiding.{Hiding}
-use Rattle.c_check.specs.Tables.{at_name, declarations, AreSeen}
+use Rattle.c_check.specs.Tables.{AreSeen}
 use Rattle.c_check.proofs.Tables.{seen_less, one_more, latest_is_there}
 use Rattle.c_check.proofs.visible.Visible.end_latest.Goals as goal
 

@@ -1,6 +1,3 @@
-use Rattle.std.proofs.Common.{◌≡◌, [], reverse, sym, subst, List}
-use Rattle.c_check.specs.declared.visible.Hiding.{Hiding}
-use Rattle.c_check.specs.Tables.{AreSeen}
 use Rattle.c_check.proofs.Tables.{none_seen}
 use Rattle.c_check.proofs.visible.Visible.new.Goals as goal
 
