@@ -5,3 +5,4 @@ pub mod Going
 pub mod Keeping
 pub mod MainStart
 pub mod Marks
+pub mod OneMove

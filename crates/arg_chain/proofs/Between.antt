@@ -33,7 +33,7 @@ then_less Less b h = inl refl
 then_less Equal b h = inr (refl, h)
 then_less Greater b h = absurd (greater_less h)
 
-nat_less : (x y : ℕ) → nat_cmp x y ≡ Less → x < y
+pub nat_less : (x y : ℕ) → nat_cmp x y ≡ Less → x < y
 nat_less x y h = by (nat_lt x y) refl h
   where
     by : (b : Bool) → nat_lt x y ≡ b → cond b Less (cond (x == y) Equal Greater) ≡ Less → x < y

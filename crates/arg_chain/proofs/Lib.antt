@@ -10,3 +10,5 @@ pub mod LeastChains
 pub mod Rows
 pub mod Made
 pub mod Frames
+pub mod Tops
+pub mod OneLeast

@@ -4,3 +4,4 @@ pub mod Choice
 pub mod Chains
 pub mod Calls
 pub mod Serving
+pub mod Laws

@@ -1,7 +1,7 @@
 //! The least chains of vertices.
 ghost use Rattle.std.specs.Prelude.{◌≡◌, IfOk, IfSome, IfNone, Some, Contains, slice_get};
 ghost use Rattle.constraint_sys.specs.Table.{TableValue};
-ghost use Rattle.arg_graph.specs.Following.{StackValue};
+ghost use Rattle.arg_graph.specs.Following.{StackValue, top_of};
 ghost use Rattle.arg_graph.specs.Graphs.{IsGraphOf, offered_in, vertices_in};
 ghost use Rattle.arg_chain.specs.Chains.{IsChain, IsLeastChain};
 
@@ -83,6 +83,7 @@ impl<'g> Calls<'g> {
     pub fn chain(&self, alloc: Global, v: Vertex) -> Result<Option<Stack>, Memory>
         ensures some { IfOk result (λ o. IfSome o (λ s. IsLeastChain self.now.program (vertices_in self.now.graph) (offered_in self.now.graph) v s)) }
         ensures none { IfOk result (λ o. IfNone o ((s : StackValue) → IsChain self.now.program (vertices_in self.now.graph) (offered_in self.now.graph) v s → ⊥)) }
+        ensures top { IfOk result (λ o. IfSome o (λ s. top_of s ≡ Some v)) }
     {
         match place(self.graph.vertices(), &v) {
             Some(target) => self.chain_to(alloc, &v, target),
@@ -95,6 +96,7 @@ impl<'g> Calls<'g> {
         requires { slice_get (vertices_in self.now.graph) target ≡ Some v.now }
         ensures some { IfOk result (λ o. IfSome o (λ s. IsLeastChain self.now.program (vertices_in self.now.graph) (offered_in self.now.graph) v.now s)) }
         ensures none { IfOk result (λ o. IfNone o ((s : StackValue) → IsChain self.now.program (vertices_in self.now.graph) (offered_in self.now.graph) v.now s → ⊥)) }
+        ensures top { IfOk result (λ o. IfSome o (λ s. top_of s ≡ Some v.now)) }
     {
         let vertices = self.graph.vertices();
         let rows = self.hops.rows();
@@ -120,6 +122,7 @@ pub fn chain(
     requires { (t : TableValue) × IsGraphOf program.now t graph.now }
     ensures some { IfOk result (λ o. IfSome o (λ s. IsLeastChain program.now (vertices_in graph.now) (offered_in graph.now) v s)) }
     ensures none { IfOk result (λ o. IfNone o ((s : StackValue) → IsChain program.now (vertices_in graph.now) (offered_in graph.now) v s → ⊥)) }
+    ensures top { IfOk result (λ o. IfSome o (λ s. top_of s ≡ Some v)) }
 {
     let calls = Calls::of(alloc, program, graph)?;
     calls.chain(alloc, v)

@@ -6,9 +6,11 @@ mod calls;
 mod distances;
 mod hop;
 mod hops;
+mod law;
 mod least;
 mod roots;
 mod stacking;
 mod turned;
 
 pub use calls::{Calls, chain};
+pub use law::least_chains_are_one;

@@ -31,6 +31,17 @@ fn a_later_write_that_fails_leaves_a_prefix(rt: HostRuntime) -> Result<(), Fail>
     Ok(())
 }
 
+/// The 13th call has the sink pass on the 12 writes.
+#[test]
+fn a_table_that_is_not_passed_on_is_a_write_fault(rt: HostRuntime) -> Result<(), Fail> {
+    let whole = analysed(rt.alloc(), SMALL)?;
+    let faults = Faults { load: 0, write: 13 };
+    let held = run_with(rt.alloc(), &["analyse", NAME], SMALL, faults)?;
+    assert_eq!(rt; held.status.number(), 4);
+    assert_eq!(rt; held.written.as_slice(), whole.written.as_slice());
+    Ok(())
+}
+
 /// A status whose line can't be written stays.
 #[test]
 fn a_line_that_can_not_be_written_changes_no_status(rt: HostRuntime) -> Result<(), Fail> {

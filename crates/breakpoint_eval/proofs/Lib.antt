@@ -3,6 +3,7 @@ pub mod Filling
 pub mod Filtering
 pub mod Forms
 pub mod Marking
+pub mod Parting
 pub mod Places
 pub mod Standing
 pub mod Watched

@@ -16,7 +16,7 @@ mod vertices;
 mod watching;
 
 pub use fault::WatchFault;
-pub use law::{stops_drop_nothing, watches_describe};
+pub use law::{lines_have_one_node, stops_come_one_by_one, stops_drop_nothing, watches_describe};
 pub use lines::resolve;
 pub use stop::{Break, Stop};
 pub use stopping::stops;

@@ -7,6 +7,8 @@ ghost use Rattle.constraint_sys.specs.Table.{slots_at};
 ghost use Rattle.arg_graph.specs.Graphs.{IsGraphOf};
 ghost use Rattle.arg_graph.specs.Vertices.{IsVertex};
 ghost use Rattle.arg_graph.specs.declared.vertex.Vertex.{Vertex as TheVertex};
+ghost use Rattle.breakpoint_eval.specs.declared.stop.Stop.{Stop as TheStop};
+ghost use Rattle.breakpoint_eval.specs.Parting.{StandsAtItsBreak};
 ghost use Rattle.breakpoint_eval.specs.Watching.{global_intervals, interval_at, may_stop, stop_with, stopping, stops_of};
 
 use crate::columns::stopping_by_columns;
@@ -33,7 +35,8 @@ struct Known<'k> {
 
 /// For each break in order the vertices at its node at which its condition may be other than 0, in the
 /// order of unknowns. A break without a condition stops at each; one with an unknown name stops at
-/// none; a break without such a vertex gives no stop. `Memory` is want of memory.
+/// none; a break without such a vertex gives no stop. Each vertex of a stop stands at its break's
+/// function and node. `Memory` is want of memory.
 pub fn stops(
     alloc: Global,
     program: &Program,
@@ -45,7 +48,8 @@ pub fn stops(
     requires shaped { IsShaped program.now table.now }
     requires graph { IsGraphOf program.now table.now graph.now }
     requires breaks { length breaks.now < 2 ^ 32 }
-    ensures { IfOk result (λ all. all.items ≡ stops_of program.now table.now breaks.now) }
+    ensures value { IfOk result (λ all. all.items ≡ stops_of program.now table.now breaks.now) }
+    ensures at { IfOk result (λ all. (stop : TheStop) → Contains all.items stop → StandsAtItsBreak breaks.now stop) }
 {
     let globals = global_intervals(alloc, program, table)?;
     let known = Known {

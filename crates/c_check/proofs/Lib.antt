@@ -1,4 +1,5 @@
 pub mod Among
+pub mod Analysable
 pub mod Counting
 pub mod ExprForms
 pub mod Firsts
@@ -34,3 +35,4 @@ pub mod WellMadeScopes
 pub mod WellMadeStmts
 pub mod WellMadeUnits
 pub mod Widths
+pub mod WordNames

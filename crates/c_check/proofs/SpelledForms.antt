@@ -23,7 +23,7 @@ use Rattle.c_parse.specs.declared.raw.stmt.RawPlaced.{RawPlaced}
 use Rattle.c_parse.specs.Grammar as grammar
 use Rattle.c_parse.specs.Grammar.{Next, ReadsName, ReadsOperator, step_of, placed, declared, thread}
 use Rattle.c_check.specs.Bodies.{return_value}
-use Rattle.c_check.specs.Spelled.{Spelling, is_spelled_expr, is_spelled_or_missing, is_head_part, spelled_expr_step, spelling_step, placed_spelling, spelling_of, is_spelled}
+use Rattle.c_check.specs.Spelled.{Spelling, is_word, is_spelled_expr, is_spelled_or_missing, is_head_part, spelled_expr_step, spelling_step, placed_spelling, spelling_of, is_spelled}
 use Rattle.c_check.specs.Laws.{is_plain}
 use Rattle.c_check.proofs.RawFolds.{fold-Number, fold-Name, fold-Unary, fold-Binary, fold-Call, fold-struct, fold-Declare, fold-DeclareThread, fold-Assign, fold-CallOnly, fold-If, fold-While, fold-DoWhile, fold-For, fold-Block, fold-Break, fold-Continue, fold-Return, fold-Create, fold-Join, fold-Lock, fold-Unlock, fold-Assert, fold-Empty}
 
@@ -43,6 +43,9 @@ keep_operator (grammar.operates e) h = h.1
 
 pub number_plain : {v : ℤ} {w : Width} {ts rest : List Terminal} → Next (kinds.Number v w) ts rest → IsPlain ts → (int_le (pos 0) v && fits w v) ≡ true
 number_plain (grammar.next e) h = ap is_plain (sym e) ∙ h.0
+
+pub name_word : {ts rest : List Terminal} {x : RawName} → ReadsName ts x rest → IsPlain ts → is_word x.text ≡ true
+name_word (grammar.ident e) h = ap is_plain (sym e) ∙ h.0
 
 -- ---- expressions
 
@@ -82,11 +85,11 @@ placed_head ts s h = ap is_head_part (placed_is (placed ts s).place s) ∙ h
 pub placed_spelled : (ts : List Terminal) (s : RawStmt) → (spelling s).spelled ≡ true → is_spelled (placed ts s) ≡ true
 placed_spelled ts s h = ap (λ (g : Spelling). g.spelled) (placed_is (placed ts s).place s) ∙ h
 
-pub declared_head : (here : Place) (w : Width) (x : RawName) (i : Option RawExpr) → is_spelled_or_missing i ≡ true → is_head (declared here w x i) ≡ true
-declared_head here w x i h = ap is_head_part (placed_is here (stmts.Declare w x i) ∙ fold-Declare Spelling Spelling spelling_step placed_spelling w x i) ∙ h
+pub declared_head : (here : Place) (w : Width) (x : RawName) (i : Option RawExpr) → is_word x.text ≡ true → is_spelled_or_missing i ≡ true → is_head (declared here w x i) ≡ true
+declared_head here w x i is h = ap is_head_part (placed_is here (stmts.Declare w x i) ∙ fold-Declare Spelling Spelling spelling_step placed_spelling w x i) ∙ and_from _ _ is h
 
-pub thread_spelled : (here : Place) (x : RawName) → is_spelled (thread here x) ≡ true
-thread_spelled here x = ap (λ (g : Spelling). g.spelled) (placed_is here (stmts.DeclareThread x) ∙ fold-DeclareThread Spelling Spelling spelling_step placed_spelling x)
+pub thread_spelled : (here : Place) (x : RawName) → is_word x.text ≡ true → is_spelled (thread here x) ≡ true
+thread_spelled here x is = ap (λ (g : Spelling). g.spelled) (placed_is here (stmts.DeclareThread x) ∙ fold-DeclareThread Spelling Spelling spelling_step placed_spelling x) ∙ is
 
 pub heads_spelled : (ps : List RawPlaced) → list_all is_head ps ≡ true → list_all is_spelled ps ≡ true
 heads_spelled [] h = refl

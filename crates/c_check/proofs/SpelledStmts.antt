@@ -16,7 +16,7 @@ use Rattle.c_parse.specs.Grammar as grammar
 use Rattle.c_parse.specs.Grammar.{Nesting, Next, ReadsName, ReadsOperator, ReadsLevel, ReadsChain, ReadsCall, ReadsArgs, ReadsMoreArgs, ReadsWhole, ReadsCondition, ReadsInitial, ReadsLongTail, ReadsType, ReadsLocals, ReadsMoreLocals, ReadsNumbers, ReadsThreads, ReadsMoreThreads, ReadsDecl, ReadsAfterName, ReadsHandle, ReadsSimple, ReadsValue, ReadsFirst, ReadsTest, ReadsLast, ReadsDoEnd, ReadsBare, ReadsStmt, ReadsElse, ReadsItems, ReadsLiteral, ReadsGlobals, ReadsMoreGlobals, ReadsAfterHead, ReadsParam, ReadsParamName, ReadsMoreParams, ReadsParams, ReadsThreadParam, ReadsThreadVoid, ReadsThreadName, ReadsVoided, ReadsNamed, ReadsTyped, ReadsMutexName, ReadsOuter, ReadsItem, ReadsUnit, IsUnit, within}
 use Rattle.c_check.specs.Bodies.{return_value}
 use Rattle.c_check.specs.Spelled.{is_spelled_expr, is_spelled_or_missing, is_head_part, spelling_of, is_spelled}
-use Rattle.c_check.proofs.SpelledForms.{IsPlain, keep_next, keep_name, keep_operator, number_plain, spelling, is_head, number_spelled, name_spelled, unary_spelled, binary_spelled, call_spelled, step_spelled, declared_head, thread_spelled, heads_spelled, assign_head, call_head, assert_head, create_head, join_head, lock_head, unlock_head, placed_head, placed_spelled, empty_spelled, break_spelled, continue_spelled, return_spelled, block_spelled, if_spelled, while_spelled, do_spelled, for_spelled}
+use Rattle.c_check.proofs.SpelledForms.{IsPlain, keep_next, keep_name, keep_operator, number_plain, name_word, spelling, is_head, number_spelled, name_spelled, unary_spelled, binary_spelled, call_spelled, step_spelled, declared_head, thread_spelled, heads_spelled, assign_head, call_head, assert_head, create_head, join_head, lock_head, unlock_head, placed_head, placed_spelled, empty_spelled, break_spelled, continue_spelled, return_spelled, block_spelled, if_spelled, while_spelled, do_spelled, for_spelled}
 
 mutual
   pub spell_level : {l : ℕ} {a b : Nesting} {ts rest : List Terminal} {e : RawExpr} → ReadsLevel l a ts e rest b → IsPlain ts → (is_spelled_expr e ≡ true) × IsPlain rest
@@ -64,7 +64,7 @@ keep_type (grammar.long_type n0 n1) h = let k0 = keep_next n0 h in let k1 = keep
 
 mutual
   pub spell_locals : {here : Place} {w : Width} {a b : Nesting} {ts rest : List Terminal} {ps : List RawPlaced} → ReadsLocals here w a ts ps rest b → IsPlain ts → (list_all is_head ps ≡ true) × IsPlain rest
-  spell_locals (grammar.locals n0 n1 n2) h = let k0 = keep_name n0 h in let k1 = spell_initial n1 k0 in let k2 = spell_more_locals n2 k1.1 in (and_from _ _ (declared_head _ _ _ _ k1.0) k2.0, k2.1)
+  spell_locals (grammar.locals n0 n1 n2) h = let k0 = keep_name n0 h in let k1 = spell_initial n1 k0 in let k2 = spell_more_locals n2 k1.1 in (and_from _ _ (declared_head _ _ _ _ (name_word n0 h) k1.0) k2.0, k2.1)
 
   pub spell_more_locals : {w : Width} {a b : Nesting} {ts rest : List Terminal} {ps : List RawPlaced} → ReadsMoreLocals w a ts ps rest b → IsPlain ts → (list_all is_head ps ≡ true) × IsPlain rest
   spell_more_locals (grammar.last_local n0) h = let k0 = keep_next n0 h in (refl, k0)
@@ -75,7 +75,7 @@ spell_numbers (grammar.numbers n0 n1) h = let k0 = keep_type n0 h in let k1 = sp
 
 mutual
   pub spell_threads : {here : Place} {ts rest : List Terminal} {ps : List RawPlaced} → ReadsThreads here ts ps rest → IsPlain ts → (list_all is_spelled ps ≡ true) × IsPlain rest
-  spell_threads (grammar.threads n0 n1) h = let k0 = keep_name n0 h in let k1 = spell_more_threads n1 k0 in (and_from _ _ (thread_spelled _ _) k1.0, k1.1)
+  spell_threads (grammar.threads n0 n1) h = let k0 = keep_name n0 h in let k1 = spell_more_threads n1 k0 in (and_from _ _ (thread_spelled _ _ (name_word n0 h)) k1.0, k1.1)
 
   pub spell_more_threads : {ts rest : List Terminal} {ps : List RawPlaced} → ReadsMoreThreads ts ps rest → IsPlain ts → (list_all is_spelled ps ≡ true) × IsPlain rest
   spell_more_threads (grammar.last_thread n0) h = let k0 = keep_next n0 h in (refl, k0)

@@ -1,10 +1,12 @@
--- The numbers of tokens that were cut from a text have no sign and are in the width that they are written in.
+-- The numbers of tokens that were cut from a text have no sign and are in the width that they are written in, and
+-- their names are words.
 use Rattle.std.proofs.Common.{◌≡◌, refl, sym, subst, ℕ, ℤ, pos, ◌<◌, ◌^◌, ◌==◌, int_le, int_lt, Bool, true, false, ◌&&◌, ◌||◌, if◌then◌else◌, List, [], ◌∷◌, Option, None, Some, codes, bytes_eq, slice_range, slice_index, length, ◌-◌, arith}
 use Rattle.std.specs.List.{AllByRecursion}
 use Rattle.std.specs.Option.{option_map_or}
 use Rattle.std.proofs.lemmas.Bool.{and_from, le-leb, ltb-false}
 use Rattle.std.proofs.lemmas.List.Elements.{recursion_from_All}
 use Rattle.gob_tree.specs.Widths.{fits}
+use Rattle.gob_tree.specs.Words.{IsWord}
 use Rattle.gob_tree.specs.declared.expr.BinOp.TheVariants as ops
 use Rattle.gob_tree.specs.declared.expr.Width.TheVariants.{W32, W64}
 use Rattle.c_lex.specs.Pieces.{IsToken, Spells}
@@ -18,6 +20,7 @@ use Rattle.c_parse.specs.declared.terminal.Kind.{Kind}
 use Rattle.c_parse.specs.declared.terminal.Kind.TheVariants as kinds
 use Rattle.c_parse.specs.Terminals.{declaring_word, statement_word, library_word, profile_word, or_else, is_one_of, other_keywords, word_or_name, word_kind, mark_kind, kind_in, terminals_of}
 use Rattle.c_check.specs.Laws.{is_plain}
+use Rattle.c_check.specs.Spelled.{is_word}
 use Rattle.c_check.proofs.SpelledForms.{IsPlain}
 
 -- ---- words and marks are no numbers
@@ -92,13 +95,16 @@ or_else_plain : (o p : Option Kind) → option_map_or is_plain o true ≡ true �
 or_else_plain (Some k) p h g = h
 or_else_plain None p h g = g
 
-word_or_name_plain : (o : Option Kind) (w : List ℕ) → option_map_or is_plain o true ≡ true → is_plain (word_or_name o w) ≡ true
-word_or_name_plain (Some k) w h = h
-word_or_name_plain None w h = either (is_one_of other_keywords w) kinds.Keyword (kinds.Name w) refl refl
+word_or_name_plain : (o : Option Kind) (w : List ℕ) → is_word w ≡ true → option_map_or is_plain o true ≡ true → is_plain (word_or_name o w) ≡ true
+word_or_name_plain (Some k) w is h = h
+word_or_name_plain None w is h = either (is_one_of other_keywords w) kinds.Keyword (kinds.Name w) refl is
 
-word_plain : (w : List ℕ) → is_plain (word_kind w) ≡ true
-word_plain w =
-    word_or_name_plain (profile_word w) w
+tested : (w : List ℕ) → IsWord w → is_word w ≡ true
+tested w is = subst (λ (p : List ℕ). is_word p ≡ true) (sym is.2) (and_from _ _ is.3 is.4)
+
+word_plain : (w : List ℕ) → is_word w ≡ true → is_plain (word_kind w) ≡ true
+word_plain w is =
+    word_or_name_plain (profile_word w) w is
     (or_else_plain (declaring_word w) (or_else (statement_word w) (library_word w))
     (declaring (bytes_eq w (codes "int")) (bytes_eq w (codes "long")) (bytes_eq w (codes "void")) (bytes_eq w (codes "static")) (bytes_eq w (codes "extern")))
     (or_else_plain (statement_word w) (library_word w)
@@ -123,7 +129,7 @@ number_plain run v s =
     (number_fits (is_suffix (slice_index run (length run - 1))) (int_lt (pos 2147483647) (pos s.number)) s.number s.fits refl)
 
 kind_plain : (run : List ℕ) (k : TokenKind) → IsToken k run → is_plain (kind_in run k) ≡ true
-kind_plain run Word is = word_plain run
+kind_plain run Word is = word_plain run (tested run is)
 kind_plain run (Number v) is = number_plain run v is
 kind_plain run Mark is = mark_plain run
 

@@ -169,7 +169,7 @@ module _ (unit : TranslationUnit) (D P : List (List ℕ × Signature)) (main : M
         definitions = s.definitions;
         prototypes = s.prototypes;
         values = s.values;
-        functions = each_append (IsWellMadeFunction unit) a.funcs (f ∷ []) s.functions (function_made a.names h end body unit (file_is_fit f a s) spelled (nil_right _ _ more), tt);
+        functions = each_append (IsWellMadeFunction unit) a.funcs (f ∷ []) s.functions (function_made a.names h end body unit (file_is_fit f a s) (and_parts _ _ spelled).1 (nil_right _ _ more), tt);
         mains = each_append (λ (f : Function). is_main f.name ≡ true → IsMainOf f) a.funcs (f ∷ []) s.mains (main_is a.names h end body (nil_left _ _ rest), tt);
         initials = s.initials;
         distinct = with_function_name a.funcs a.globals a.mutexes f s.distinct (apart a s h.name.text (not-true (is_defined a.names h.name.text) (asks_true (not (is_defined a.names h.name.text)) _ h.name.place (nil_left _ _ none))));
@@ -192,11 +192,11 @@ module _ (unit : TranslationUnit) (D P : List (List ℕ × Signature)) (main : M
     walk : (rest : List RawItem) (a : Made) → after_items rest a ≡ final → Sound unit D P a → items_faults rest a ≡ [] → list_all is_spelled_item rest ≡ true → Sound unit D P final
     walk [] a is s none spelled = subst (λ (b : Made). Sound unit D P b) is s
     walk (items.Global x w v literal ∷ rest) a is s none spelled =
-        walk rest (after_item (items.Global x w v literal) a) is (global_sound x w v literal a s (nil_left _ _ none) (holds rest (after_item (items.Global x w v literal) a) is)) (nil_right _ _ none) spelled
+        walk rest (after_item (items.Global x w v literal) a) is (global_sound x w v literal a s (nil_left _ _ none) (holds rest (after_item (items.Global x w v literal) a) is)) (nil_right _ _ none) (and_parts _ _ spelled).1
     walk (items.Mutex x ∷ rest) a is s none spelled =
-        walk rest (after_item (items.Mutex x) a) is (mutex_sound x a s (nil_left _ _ none) (holds rest (after_item (items.Mutex x) a) is)) (nil_right _ _ none) spelled
+        walk rest (after_item (items.Mutex x) a) is (mutex_sound x a s (nil_left _ _ none) (holds rest (after_item (items.Mutex x) a) is)) (nil_right _ _ none) (and_parts _ _ spelled).1
     walk (items.Prototype h ∷ rest) a is s none spelled =
-        walk rest (after_item (items.Prototype h) a) is (prototype_sound h a s) (nil_right _ _ none) spelled
+        walk rest (after_item (items.Prototype h) a) is (prototype_sound h a s) (nil_right _ _ none) (and_parts _ _ spelled).1
     walk (items.Function h end body ∷ rest) a is s none spelled =
         walk rest (after_item (items.Function h end body) a) is (function_sound h end body a s (nil_left _ _ none) (and_parts _ _ spelled).0) (nil_right _ _ none) (and_parts _ _ spelled).1
 

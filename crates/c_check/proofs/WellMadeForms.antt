@@ -36,7 +36,7 @@ module _ (unit : TranslationUnit) (f : Function) (file : FileNames) (fits : File
       (λ is body. refl)
       (λ spelled inside body fine within none.
       let after = fine_local f x.text w body fine within in
-      and_from _ _ after.visible.0 (optional unit f file fits (with_local x.text w body) after e spelled (nil_right _ _ none)))
+      and_from _ _ after.visible.0 (optional unit f file fits (with_local x.text w body) after e (and_parts _ _ spelled).1 (nil_right _ _ none)))
 
   pub declare_thread : (x : RawName) (place : Place) → Behaves unit f (reading_step file (RawStmt-F.DeclareThread x) place) (spelling_step (RawStmt-F.DeclareThread x))
   declare_thread x place = compound unit f file fits _ _ (λ body. Stmt-F.DeclareThread (length body.threads))

@@ -24,7 +24,7 @@ mod visible;
 
 pub use examples::limits_by_hand;
 pub use fault::{FrontFault, FrontKind};
-pub use law::{accepted_is_well_made, one_outcome};
+pub use law::{accepted_is_well_made, one_outcome, sources_are_analysable};
 pub use limits::Counted;
 pub use meaning::{Callee, Declared, Meaning, Signature};
 pub use phases::front;

@@ -16,7 +16,8 @@ use Rattle.c_lex.specs.declared.piece.Found.{Found}
 use Rattle.c_lex.specs.declared.token.TokenKind.TheVariants.{Word, Number, Mark}
 use Rattle.c_lex.specs.Found.{FindsPiece, IsLongestMark, NoMark}
 use Rattle.c_lex.specs.Numbers.{without_suffix_of}
-use Rattle.c_lex.specs.Pieces.{IsPiece, NoPiece, Begins, Holds, Spells, is_blank, is_word_head, is_word_byte, is_mark}
+use Rattle.c_lex.specs.Pieces.{IsPiece, NoPiece, Begins, Holds, Spells, is_blank, is_mark}
+use Rattle.gob_tree.specs.Words.{is_word_byte, is_word_head}
 use Rattle.c_lex.proofs.Heads.{Heads, head_at, length-piece}
 use Rattle.c_lex.proofs.Hashes.{include_longest, directive_longest, no_hash}
 use Rattle.c_lex.proofs.Numerals.{spelled_digits, no_number_of_digits}

@@ -7,7 +7,8 @@ use Rattle.std.proofs.lemmas.Bool.{and_parts}
 use Rattle.c_lex.specs.declared.piece.Shape.{Shape}
 use Rattle.c_lex.specs.declared.piece.Shape.TheVariants.{Blank, LineComment, BlockComment, Include, Kept, Unclosed, Directive, BadNumber}
 use Rattle.c_lex.specs.declared.token.TokenKind.TheVariants.{Word, Number, Mark}
-use Rattle.c_lex.specs.Pieces.{IsPiece, Begins, Only, is_blank, is_word_head, is_mark}
+use Rattle.c_lex.specs.Pieces.{IsPiece, Begins, Only, is_blank, is_mark}
+use Rattle.gob_tree.specs.Words.{is_word_head}
 use Rattle.c_lex.proofs.Numerals.{decimal_digits}
 
 -- a byte that a mark begins with

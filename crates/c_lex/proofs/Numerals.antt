@@ -10,7 +10,8 @@ use Rattle.std.proofs.lemmas.Bool.Decides.{nat_tests}
 use Rattle.std.proofs.lemmas.Fmt.{decimal_is_IsNumeral, decimal_injective, decimal-digits_value, decimal_digit, first_decimal}
 use Rattle.std.proofs.lemmas.Str.Parse.{digit_from_value, IsNumeralModel, numerals_by_value, tells_all_ascii_digits, digits_value-take-le}
 use Rattle.std.proofs.lemmas.List.{take_at, append-nil, length-append, get_or_at, take_all, take_more}
-use Rattle.c_lex.specs.Pieces.{Only, Spells, IsSuffix, is_word_byte, is_word_head}
+use Rattle.c_lex.specs.Pieces.{Only, Spells, IsSuffix}
+use Rattle.gob_tree.specs.Words.{is_word_byte, is_word_head}
 use Rattle.c_lex.specs.Numbers.{is_suffix, without_suffix_of}
 
 Only-digits : (ds : List ℕ) → AllDigits 10 ds → Only is_ascii_digit ds

@@ -12,7 +12,8 @@ use Rattle.c_lex.specs.declared.piece.Shape.TheVariants.{Blank, LineComment, Blo
 use Rattle.c_lex.specs.declared.piece.Found.{Found}
 use Rattle.c_lex.specs.declared.token.TokenKind.TheVariants.{Word, Number, Mark}
 use Rattle.c_lex.specs.Found.{FindsPiece}
-use Rattle.c_lex.specs.Pieces.{IsPiece, IsLongest, Begins, Only, Spells, IsWord, is_blank, is_word_head, is_word_byte, is_mark}
+use Rattle.c_lex.specs.Pieces.{IsPiece, IsLongest, Begins, Only, Spells, is_blank, is_mark}
+use Rattle.gob_tree.specs.Words.{IsWord, is_word_byte, is_word_head}
 use Rattle.c_lex.proofs.Fronts.{length-front-le, Only-take, same_front}
 use Rattle.c_lex.proofs.Numerals.{Only-run, one_number}
 use Rattle.c_lex.proofs.Heads.{Heads, head_at}

@@ -1,7 +1,8 @@
 -- The table of pieces that a text is cut into, and the longest one at a place.
 use Rattle.std.specs.Prelude.{◌≡◌, ℕ, ◌<◌, ◌^◌, ℤ, pos, Bool, not, ◌||◌, ◌==◌, ◌⊎◌, List, [], ◌∷◌, ◌++◌, length, IsTrue, codes, decimal, bytes_eq}
-use Rattle.std.specs.Char.{is_ascii_alphabetic, is_ascii_digit}
+use Rattle.std.specs.Char.{is_ascii_digit}
 use Rattle.std.specs.List.{list_all, list_any}
+use Rattle.gob_tree.specs.Words.{is_word_byte, IsWord}
 use Rattle.c_lex.specs.declared.piece.Shape.{Shape}
 use Rattle.c_lex.specs.declared.piece.Shape.TheVariants.{Blank, LineComment, BlockComment, Include, Kept, Unclosed, Directive, BadNumber}
 use Rattle.c_lex.specs.declared.token.TokenKind.{TokenKind}
@@ -18,13 +19,6 @@ is_space b = b == 32 || b == 9
 -- a blank, a tab, a carriage return or a line feed
 abbrev pub is_blank : ℕ → Bool
 is_blank b = is_space b || (b == 13 || b == 10)
-
--- a letter of ASCII or `_`
-abbrev pub is_word_head : ℕ → Bool
-is_word_head b = is_ascii_alphabetic b || b == 95
-
-abbrev pub is_word_byte : ℕ → Bool
-is_word_byte b = is_word_head b || is_ascii_digit b
 
 -- each byte passes the test
 abbrev pub Only : (ℕ → Bool) → List ℕ → Type 0
@@ -47,10 +41,6 @@ marks =
 
 abbrev pub is_mark : List ℕ → Bool
 is_mark p = list_any (bytes_eq p) marks
-
--- a word: a letter or `_`, and then letters, digits and `_`
-abbrev pub IsWord : List ℕ → Type 0
-IsWord p = (head : ℕ) × (tail : List ℕ) × (p ≡ head ∷ tail) × IsTrue (is_word_head head) × Only is_word_byte tail
 
 -- a run that a number would have to be: a digit, and then letters, digits and `_`
 abbrev pub IsDigitRun : List ℕ → Type 0

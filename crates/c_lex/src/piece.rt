@@ -2,7 +2,8 @@ ghost use Rattle.std.specs.Prelude.{◌≡◌, ◌<◌, ◌≤◌, ◌∷◌, []
 ghost use Rattle.std.specs.Char.{is_ascii_digit};
 ghost use Rattle.std.specs.List.{prefix_len};
 ghost use Rattle.c_lex.specs.Found.{FindsPiece, IsLongestMark, NoMark};
-ghost use Rattle.c_lex.specs.Pieces.{NoPiece, is_blank, is_line_end, is_mark, is_word_byte, is_word_head};
+ghost use Rattle.c_lex.specs.Pieces.{NoPiece, is_blank, is_line_end, is_mark};
+ghost use Rattle.gob_tree.specs.Words.{is_word_byte, is_word_head};
 
 use crate::number::number_of;
 use crate::token::TokenKind;

@@ -12,6 +12,3 @@ mod route;
 
 pub use drawing::{build, silent_edges};
 pub use fault::BuildFault;
-
-#[cfg(test)]
-mod tests;

@@ -13,8 +13,6 @@ mod readers;
 mod start;
 mod system;
 mod table;
-#[cfg(test)]
-mod tests;
 mod transfer;
 mod turns;
 mod unknown;

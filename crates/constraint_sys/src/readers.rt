@@ -80,10 +80,23 @@ fn reads_any(
 {
     match q {
         Unknown::Point { func, key, node } if *node > 0 => {
-            point_reads_any(alloc, program, system, table, *func, key, *node, rose)
+            let point = NodeInContext {
+                func: *func,
+                key: *key,
+                node: *node,
+            };
+            point_reads_any(alloc, program, system, table, &point, rose)
         }
         _ => Ok(false),
     }
+}
+
+/// A node of a function in a context.
+#[derive(Clone, Copy)]
+struct NodeInContext {
+    func: u16,
+    key: Key,
+    node: u16,
 }
 
 fn point_reads_any(
@@ -91,22 +104,21 @@ fn point_reads_any(
     program: &Program,
     system: &System,
     table: &Table,
-    func: u16,
-    key: &Key,
-    node: u16,
+    point: &NodeInContext,
     rose: &[Unknown],
 ) -> Result<bool, Memory>
     requires formed { IsFormed program.now }
     requires system { IsSystemOf program.now system.now }
     requires shaped { IsShaped program.now table.now }
-    requires in_range { func < length program.now.funcs }
-    ensures { IfOk result (λ yes. IsTrue yes ↔ HasCommon rose.now (reads_of program.now table.now func key.now (edges_into program.now func node))) }
+    requires in_range { point.now.func < length program.now.funcs }
+    ensures { IfOk result (λ yes. IsTrue yes ↔ HasCommon rose.now (reads_of program.now table.now point.now.func point.now.key (edges_into program.now point.now.func point.now.node))) }
 {
+    let func = point.func;
     let edges = function_at(program, func).edges.as_slice();
-    for i in system.into(func, node) {
+    for i in system.into(func, point.node) {
         let n = *i as usize;
         let edge = &edges[n];
-        let reads = edge_reads_any(alloc, program, table, func, key, edge, rose)?;
+        let reads = edge_reads_any(alloc, program, table, func, &point.key, edge, rose)?;
         if reads {
             return Ok(true);
         }

@@ -122,8 +122,7 @@ fn done(
             table,
             function,
             state,
-            *d,
-            *f,
+            CallSite { to: *d, func: *f },
             args.as_slice(),
         ),
         Action::Join(_) => Ok(only(alloc, state.copy(alloc)?)),
@@ -279,6 +278,13 @@ fn created(alloc: Global, program: &Program, state: &State, f: u16) -> Result<Ou
     with_effect(alloc, state.copy(alloc)?, target, Value::State(start))
 }
 
+/// Which function a call is of, and the slot that its result goes to.
+#[derive(Clone, Copy)]
+struct CallSite {
+    to: Option<u16>,
+    func: u16,
+}
+
 /// A call.
 fn call(
     alloc: Global,
@@ -286,8 +292,7 @@ fn call(
     table: &Table,
     function: &FuncGraph,
     state: &State,
-    d: Option<u16>,
-    f: u16,
+    site: CallSite,
     args: &[Expr],
 ) -> Result<Outcome, Memory>
     requires formed { IsFormed program.now }
@@ -296,14 +301,14 @@ fn call(
     requires reached { is_reached state.now ≡ true }
     requires fits { FitsEach function.now.slots (slots_of state.now) }
     requires room { room_of state.now ≡ length function.now.slots }
-    requires to { IfSome d (λ x. x < length function.now.slots) }
-    requires callable { IsSomeAnd (slice_get program.now.funcs f) (λ called. (length args.now ≡ called.params) × (called.kind ≢ Thread)) }
+    requires to { IfSome site.to (λ x. x < length function.now.slots) }
+    requires callable { IsSomeAnd (slice_get program.now.funcs site.func) (λ called. (length args.now ≡ called.params) × (called.kind ≢ Thread)) }
     requires plain { All (λ e. IsTrue (is_plain (length function.now.slots) e)) args.now }
-    ensures { IfOk result (λ o. o ≡ called program.now table.now function.now.slots (slots_of state.now) (locks_of state.now) d f (values_of function.now.slots (slots_of state.now) args.now)) }
+    ensures { IfOk result (λ o. o ≡ called program.now table.now function.now.slots (slots_of state.now) (locks_of state.now) site.to site.func (values_of function.now.slots (slots_of state.now) args.now)) }
 {
     let slots = function.slots.as_slice();
     match values(alloc, slots, state, args)? {
-        Some(values) => called(alloc, program, table, slots, state, d, f, values.as_slice()),
+        Some(values) => called(alloc, program, table, slots, state, site, values.as_slice()),
         None => Ok(only(alloc, State::bottom(alloc, room(function))?)),
     }
 }
@@ -337,8 +342,7 @@ fn called(
     table: &Table,
     slots: &[Slot],
     state: &State,
-    d: Option<u16>,
-    f: u16,
+    site: CallSite,
     args: &[Interval],
 ) -> Result<Outcome, Memory>
     requires formed { IsFormed program.now }
@@ -346,17 +350,18 @@ fn called(
     requires reached { is_reached state.now ≡ true }
     requires room { room_of state.now ≡ length slots.now }
     requires limit { length slots.now ≤ 128 }
-    requires to { IfSome d (λ x. x < length slots.now) }
-    requires function { f < length program.now.funcs }
-    requires args { length args.now ≡ params_at program.now f }
-    ensures { IfOk result (λ o. o ≡ called program.now table.now slots.now (slots_of state.now) (locks_of state.now) d f (Some args.now)) }
+    requires to { IfSome site.to (λ x. x < length slots.now) }
+    requires function { site.func < length program.now.funcs }
+    requires args { length args.now ≡ params_at program.now site.func }
+    ensures { IfOk result (λ o. o ≡ called program.now table.now slots.now (slots_of state.now) (locks_of state.now) site.to site.func (Some args.now)) }
 {
-    let callee = function_at(program, f);
+    let callee = function_at(program, site.func);
     let frame = frame(alloc, callee, args, state.locks())?;
     let key = key_of(callee.params, &frame);
-    let exit = point(f, &key, 1);
-    let value = returned(alloc, slots, state, d, table.get(&exit))?;
-    let mut outcome = with_effect(alloc, value, point(f, &key, 0), Value::State(frame))?;
+    let exit = point(site.func, &key, 1);
+    let value = returned(alloc, slots, state, site.to, table.get(&exit))?;
+    let start = point(site.func, &key, 0);
+    let mut outcome = with_effect(alloc, value, start, Value::State(frame))?;
     outcome.reads.push(exit)?;
     Ok(outcome)
 }

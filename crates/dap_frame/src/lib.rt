@@ -17,6 +17,3 @@ pub use fault::FrameFault;
 pub use framer::Framer;
 pub use memory::Memory;
 pub use write::frame;
-
-#[cfg(test)]
-mod tests;

@@ -24,6 +24,3 @@ pub use message::{
 pub use read::read_request;
 pub use request::{Ask, BreakAsk, Command, Granularity};
 pub use write::write_message;
-
-#[cfg(test)]
-mod tests;

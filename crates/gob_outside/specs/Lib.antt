@@ -1,4 +1,6 @@
 pub mod Count
+pub mod Sink
+pub mod Files
 pub mod MemSink
 pub mod Faults
 pub mod MemFiles

@@ -1,6 +1,7 @@
 -- What a sink in memory does: each call as a function of the sink's state.
-use Rattle.std.specs.Prelude.{◌≡◌, ℕ, ◌≤◌, ◌-◌, nat_eq, List, ◌++◌, length, min, if◌then◌else◌, Result, Ok, Err}
+use Rattle.std.specs.Prelude.{◌≡◌, ℕ, ◌≤◌, ◌-◌, nat_eq, List, ◌++◌, length, min, if◌then◌else◌, Some, Result, Ok, Err}
 use Rattle.gob_outside.specs.Count.{one_more, fails_next}
+use Rattle.gob_outside.specs.Sink.{SinkNow}
 use Rattle.gob_outside.specs.declared.failed.Failed.{Failed}
 
 -- the state of a sink in memory
@@ -17,6 +18,10 @@ pub record SinkState : Type 0 where
   pub calls : ℕ
   -- how many of them failed
   pub faults : ℕ
+
+-- what such a sink tells: all of its bytes
+abbrev pub told : SinkState → SinkNow
+told sink = record { written = Some sink.written; faults = sink.faults }
 
 -- how many bytes of a piece a write moves, where it doesn't fail
 abbrev pub moved_count : SinkState → List ℕ → ℕ

@@ -7,7 +7,7 @@ use crate::source::Source;
 pub trait Connection: Source + Sink {
     // A read leaves what was written, and the faults of writes, as they were.
     ghost read_leaves: { (before after : Self) → Self.read_step before after
-        → (Self.written after ≡ Self.written before) × (Self.write_faults after ≡ Self.write_faults before) };
+        → Self.seen after ≡ Self.seen before };
 
     // A write or a flush leaves the bytes still to come, the ends of the input and the faults of
     // reads as they were.

@@ -7,8 +7,8 @@ use crate::failed::Failed;
 
 /// What connections come from, one at a time, and what takes them back.
 pub trait Door {
-    /// What the door gives.
-    type Conn: Connection;
+    /// What the door gives. It may be used in a thread of its own.
+    type Conn: Connection + Send;
 
     // The connections still to come, each as `next` will give it, where the door tells them.
     ghost coming: { Self → Option (List Self.Conn) };

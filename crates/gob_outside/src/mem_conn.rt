@@ -1,7 +1,7 @@
 ghost use Rattle.std.specs.Prelude.{◌≡◌, Some, IsOk, IfOk, refl};
 ghost use Rattle.std.proofs.Common.{ap, ◌∙◌};
 ghost use Rattle.gob_outside.specs.MemSource.{ReadsOn};
-ghost use Rattle.gob_outside.specs.MemSink.{WritesOn};
+ghost use Rattle.gob_outside.specs.MemSink.{WritesOn, told};
 ghost use Rattle.gob_outside.specs.Steps.{reads_stay, reads_go_on, writes_stay, writes_go_on};
 
 use crate::connection::Connection;
@@ -57,9 +57,7 @@ impl Source for MemConn {
 }
 
 impl Sink for MemConn {
-    ghost written = { λ conn. Some conn.sink.written };
-
-    ghost write_faults = { λ conn. conn.sink.faults };
+    ghost seen = { λ conn. told conn.sink };
 
     ghost write_step = { λ before after. WritesOn before.sink after.sink × (after.source ≡ before.source) };
 
@@ -78,7 +76,7 @@ impl Sink for MemConn {
 }
 
 impl Connection for MemConn {
-    ghost read_leaves = { λ before after step. (ap (λ sink. Some sink.written) step.1, ap (λ sink. sink.faults) step.1) };
+    ghost read_leaves = { λ before after step. ap told step.1 };
 
     ghost write_leaves = { λ before after step. (
       ap (λ source. Some source.left) step.1,

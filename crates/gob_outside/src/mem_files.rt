@@ -76,11 +76,11 @@ fn content<'a>(files: &'a [(Text, Vec<u8>)], name: &str) -> Option<&'a [u8]>
 }
 
 impl Files for MemFiles {
-    ghost contents = { λ held. Some (content_of held.files.items) };
-
-    ghost faults = { λ held. count_of held.faults };
-
-    ghost asked = { λ held. Some held.asked.items };
+    ghost seen = { λ held. record {
+      contents = Some (content_of held.files.items);
+      faults = count_of held.faults;
+      asked = Some held.asked.items;
+    } };
 
     /// Fails where this is a call that is to fail, or where there is no file of this name; that
     /// is counted for the name. `Memory` comes also where a name or a failure couldn't be noted, and

@@ -1,6 +1,6 @@
-ghost use Rattle.std.specs.Prelude.{◌≡◌, ◌<◌, ◌≤◌, ◌+◌, ◌-◌, [], length, take, vec_len, min, Some, IfOk, OnErr, MatchResult};
+ghost use Rattle.std.specs.Prelude.{◌≡◌, ◌<◌, ◌≤◌, ◌+◌, ◌-◌, [], length, take, vec_len, min, IfOk, OnErr, MatchResult};
 ghost use Rattle.gob_outside.specs.Count.{Rose};
-ghost use Rattle.gob_outside.specs.MemSink.{WritesOn, write_answer, flush_answer, after_moving, after_failure};
+ghost use Rattle.gob_outside.specs.MemSink.{WritesOn, told, write_answer, flush_answer, after_moving, after_failure};
 ghost use Rattle.gob_outside.specs.Steps.{writes_stay, writes_go_on};
 
 use crate::calls::fails_now;
@@ -107,9 +107,7 @@ impl MemSink {
 }
 
 impl Sink for MemSink {
-    ghost written = { λ sink. Some sink.written };
-
-    ghost write_faults = { λ sink. sink.faults };
+    ghost seen = { told };
 
     ghost write_step = { WritesOn };
 

@@ -1,6 +1,7 @@
 ghost use Rattle.std.specs.Prelude.{◌≡◌, ◌<◌, ◌≤◌, length, take, None, IfOk, OnOk, OnErr};
 ghost use Rattle.std.specs.Io.KnownBytes.{Appends, Consumes, IsAtEnd, Keeps};
 ghost use Rattle.std.proofs.Common.{ap, refl, ◌∙◌};
+ghost use Rattle.gob_outside.specs.Sink.{silent};
 ghost use Rattle.gob_outside.specs.Count.{Rose};
 
 use crate::connection::Connection;
@@ -71,9 +72,7 @@ impl<R: Read, W: Write> Source for StdDesk<R, W> {
 }
 
 impl<R: Read, W: Write> Sink for StdDesk<R, W> {
-    ghost written = { λ _. None };
-
-    ghost write_faults = { λ desk. desk.out.faults };
+    ghost seen = { λ desk. silent desk.out.faults };
 
     ghost write_step = { λ before after. (after.reader ≡ before.reader) × (after.ends ≡ before.ends)
         × (after.faults ≡ before.faults) };
@@ -109,7 +108,7 @@ impl<R: Read, W: Write> Sink for StdDesk<R, W> {
 }
 
 impl<R: Read, W: Write> Connection for StdDesk<R, W> {
-    ghost read_leaves = { λ _ _ step. (refl, ap (λ out. out.faults) step) };
+    ghost read_leaves = { λ _ _ step. ap (λ out. silent out.faults) step };
 
     ghost write_leaves = { λ _ _ step. (refl, step.1, step.2) };
 }

@@ -33,11 +33,7 @@ impl<'a, R: FileAccess> StdFiles<'a, R> {
 }
 
 impl<'a, R: FileAccess> Files for StdFiles<'a, R> {
-    ghost contents = { λ _. None };
-
-    ghost faults = { λ files. count_of files.faults };
-
-    ghost asked = { λ _. None };
+    ghost seen = { λ files. record { contents = None; faults = count_of files.faults; asked = None } };
 
     /// A name that isn't there, that is a directory's or that may not be read is `Failed`. At most
     /// `limit + 1` bytes are read. `Memory` comes also where a failure couldn't be counted.

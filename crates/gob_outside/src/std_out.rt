@@ -1,6 +1,7 @@
 ghost use Rattle.std.specs.Prelude.{◌≡◌, ◌<◌, ◌≤◌, length, take, None, IfOk, OnOk, OnErr};
 ghost use Rattle.std.specs.Io.KnownBytes.{Appends, Keeps};
 ghost use Rattle.std.proofs.Common.{le_refl, le_trans};
+ghost use Rattle.gob_outside.specs.Sink.{silent};
 ghost use Rattle.gob_outside.specs.Count.{Rose};
 
 use crate::failed::Failed;
@@ -27,9 +28,7 @@ impl<W: Write> StdOut<W> {
 }
 
 impl<W: Write> Sink for StdOut<W> {
-    ghost written = { λ _. None };
-
-    ghost write_faults = { λ sink. sink.faults };
+    ghost seen = { λ sink. silent sink.faults };
 
     ghost write_step = { λ before after. before.faults ≤ after.faults };
 

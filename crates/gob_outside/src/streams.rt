@@ -9,7 +9,7 @@ use std::io;
 use std::io::{ErrorKind, Read, Write};
 
 // How often a call that the system interrupts is made.
-const TRIES: u32 = 1000;
+pub(crate) const TRIES: u32 = 1000;
 
 // Reads to the front of `into`, and counts a failure or an end.
 pub(crate) fn read_counted<R: Read>(

@@ -1,6 +1,7 @@
 ghost use Rattle.std.specs.Prelude.{◌≡◌, ◌<◌, ◌≤◌, ◌-◌, length, take, None, IfOk, OnOk, OnErr, IfNone, OnSome};
 ghost use Rattle.std.specs.Io.KnownBytes.{Appends, Consumes, IsAtEnd, Keeps};
-ghost use Rattle.std.proofs.Common.{refl, ◌∙◌};
+ghost use Rattle.std.proofs.Common.{ap, refl, ◌∙◌};
+ghost use Rattle.gob_outside.specs.Sink.{silent};
 ghost use Rattle.gob_outside.specs.Count.{Rose, one_more};
 
 use crate::connection::Connection;
@@ -8,8 +9,8 @@ use crate::door::Door;
 use crate::failed::Failed;
 use crate::sink::Sink;
 use crate::source::Source;
-use crate::streams::{flush_counted, read_counted, write_counted};
-use std::io::{Read, Write};
+use crate::streams::{TRIES, flush_counted, read_counted, write_counted};
+use std::io::{ErrorKind, Read, Write};
 use std::net::{Net, OpenListener, OpenStream, SocketAddr};
 
 /// A stream of the network as a connection. It counts what failed and the ends of the input, and
@@ -73,9 +74,7 @@ impl<S: Read + Write> Source for TcpConn<S> {
 }
 
 impl<S: Read + Write> Sink for TcpConn<S> {
-    ghost written = { λ _. None };
-
-    ghost write_faults = { λ conn. conn.write_faults };
+    ghost seen = { λ conn. silent conn.write_faults };
 
     ghost write_step = { λ before after. (after.read_faults ≡ before.read_faults) × (after.ends ≡ before.ends) };
 
@@ -109,7 +108,7 @@ impl<S: Read + Write> Sink for TcpConn<S> {
 }
 
 impl<S: Read + Write> Connection for TcpConn<S> {
-    ghost read_leaves = { λ _ _ step. (refl, step) };
+    ghost read_leaves = { λ _ _ step. ap silent step };
 
     ghost write_leaves = { λ _ _ step. (refl, step.1, step.0) };
 }
@@ -141,7 +140,7 @@ impl<L: OpenListener> TcpDoor<L> {
 
 impl<L: OpenListener> Door for TcpDoor<L>
 where
-    L::Stream: Read + Write + OpenStream,
+    L::Stream: Read + Write + OpenStream + Send,
 {
     type Conn = TcpConn<L::Stream>;
 
@@ -155,7 +154,8 @@ where
 
     ghost ends = { λ _. 0 };
 
-    /// Waits for a peer. Small messages are sent at once where the system allows it.
+    /// Waits for a peer; one that went away before it was taken is passed over, within a budget.
+    /// Small messages are sent at once where the system allows it.
     fn next(&mut self) -> Result<Option<TcpConn<L::Stream>>, Failed>
         ensures never_ends { IfOk result (λ conn. IfNone conn ⊥) }
         ensures one_out { OnOk result (self.new.out ≡ one_more self.old.out) }
@@ -165,7 +165,7 @@ where
         ensures never_falls { self.old.faults ≤ self.new.faults }
     {
         if let Some(listener) = &self.listener {
-            if let Ok((stream, _)) = listener.accept() {
+            if let Some(stream) = accept_some(listener) {
                 // without it messages come late, and nothing else changes
                 let _ = stream.set_nodelay(true);
                 self.out = self.out.saturating_add(1);
@@ -185,12 +185,28 @@ where
     }
 }
 
+// The stream of the next peer. A call that fails because its peer went away is made again, within the
+// budget that reads have.
+fn accept_some<L: OpenListener>(listener: &L) -> Option<L::Stream> {
+    for _ in 0..TRIES {
+        match listener.accept() {
+            Ok((stream, _)) => return Some(stream),
+            Err(error) => match error.kind() {
+                ErrorKind::ConnectionAborted | ErrorKind::ConnectionReset => {}
+                _ => return None,
+            },
+        }
+    }
+    None
+}
+
 #[cfg(test)]
 mod tests {
     use super::*;
     use crate::write::write_all;
+    use std::cell::Cell;
     use std::io;
-    use std::net::{TcpListener, TcpStream};
+    use std::net::{IpAddr, TcpListener, TcpStream};
 
     const PIECE: usize = 16 * 1024;
 
@@ -229,6 +245,7 @@ mod tests {
         let Ok(Some(mut conn)) = door.next() else {
             return Err(io::Error::from(io::ErrorKind::NotConnected));
         };
+        assert_eq!(rt; address.ip(), IpAddr::from([127, 0, 0, 1]));
         may_cross_threads(&door);
         may_cross_threads(&conn);
         let mut room = [0; PIECE];
@@ -274,6 +291,21 @@ mod tests {
         Ok(())
     }
 
+    // The port that was free a moment ago is at 127.0.0.1.
+    #[test]
+    fn a_given_port(rt: HostRuntime) -> io::Result<()> {
+        let (_, free) = free_door(&rt);
+        let mut door: TcpDoor<TcpListener> = TcpDoor::bind(&rt, free.port());
+        let here = SocketAddr::from(([127, 0, 0, 1], free.port()));
+        let mut peer = TcpConn::new(rt.connect(here)?);
+        let Ok(Some(mut conn)) = door.next() else {
+            return Err(io::Error::from(io::ErrorKind::NotConnected));
+        };
+        assert!(rt; write_all(&mut peer, b"abc").is_ok());
+        assert_eq!(rt; conn.read(&mut [0; 3]), Ok(3));
+        Ok(())
+    }
+
     #[test]
     fn a_port_in_use(rt: HostRuntime) {
         let (_door, address) = free_door(&rt);
@@ -304,5 +336,42 @@ mod tests {
         };
         assert!(rt; door.next().is_err());
         assert_eq!(rt; (door.out, door.faults), (0, 1));
+    }
+
+    // A listener whose first peers went away again.
+    #[derive(Drop)]
+    struct Hasty {
+        gone: Cell<u32>,
+        inner: TcpListener,
+    }
+
+    impl OpenListener for Hasty {
+        type Stream = TcpStream;
+
+        fn accept(&self) -> io::Result<(TcpStream, SocketAddr)> {
+            let gone = self.gone.get();
+            if gone == 0 {
+                return self.inner.accept();
+            }
+            self.gone.set(gone - 1);
+            Err(io::Error::from(io::ErrorKind::ConnectionAborted))
+        }
+    }
+
+    #[test]
+    fn peers_that_went_away_are_passed_over(rt: HostRuntime) -> io::Result<()> {
+        let inner = rt.bind(SocketAddr::from(([127, 0, 0, 1], 0)))?;
+        let _peer = rt.connect(inner.local_addr()?)?;
+        let mut door = TcpDoor {
+            listener: Some(Hasty {
+                gone: Cell::new(3),
+                inner,
+            }),
+            out: 0,
+            faults: 0,
+        };
+        assert!(rt; door.next().is_ok());
+        assert_eq!(rt; (door.out, door.faults), (1, 0));
+        Ok(())
     }
 }

@@ -15,13 +15,13 @@ pub struct Short {
 /// the sink's count of faults rose; then exactly the first `sent` bytes were written, fewer than
 /// all.
 pub fn write_all<S: Sink>(sink: &mut S, bytes: &[u8]) -> Result<(), Short>
-    ensures all { OnOk result (S.written sink.new
-        ≡ option_map (λ before. before ++ bytes.now) (S.written sink.old)) }
-    ensures fine { OnOk result (S.write_faults sink.new ≡ S.write_faults sink.old) }
+    ensures all { OnOk result ((S.seen sink.new).written
+        ≡ option_map (λ before. before ++ bytes.now) (S.seen sink.old).written) }
+    ensures fine { OnOk result ((S.seen sink.new).faults ≡ (S.seen sink.old).faults) }
     ensures fewer { IfErr result (λ short. short.sent < length bytes.now) }
-    ensures sent { IfErr result (λ short. S.written sink.new
-        ≡ option_map (λ before. before ++ take short.sent bytes.now) (S.written sink.old)) }
-    ensures failed { OnErr result (Rose (S.write_faults sink.old) (S.write_faults sink.new)) }
+    ensures sent { IfErr result (λ short. (S.seen sink.new).written
+        ≡ option_map (λ before. before ++ take short.sent bytes.now) (S.seen sink.old).written) }
+    ensures failed { OnErr result (Rose (S.seen sink.old).faults (S.seen sink.new).faults) }
     ensures step { S.write_step sink.old sink.new }
 {
     let mut sent = 0;
@@ -39,11 +39,11 @@ fn write_from<S: Sink>(sink: &mut S, bytes: &[u8], from: usize) -> Result<usize,
     requires { from < length bytes.now }
     ensures within { IfOk result (λ n. from + n ≤ length bytes.now) }
     ensures moves { IfOk result (λ n. 0 < n) }
-    ensures wrote { IfOk result (λ n. S.written sink.new
-        ≡ option_map (λ before. before ++ take n (drop from bytes.now)) (S.written sink.old)) }
-    ensures fine { OnOk result (S.write_faults sink.new ≡ S.write_faults sink.old) }
-    ensures failed { OnErr result (Rose (S.write_faults sink.old) (S.write_faults sink.new)) }
-    ensures kept { OnErr result (S.written sink.new ≡ S.written sink.old) }
+    ensures wrote { IfOk result (λ n. (S.seen sink.new).written
+        ≡ option_map (λ before. before ++ take n (drop from bytes.now)) (S.seen sink.old).written) }
+    ensures fine { OnOk result ((S.seen sink.new).faults ≡ (S.seen sink.old).faults) }
+    ensures failed { OnErr result (Rose (S.seen sink.old).faults (S.seen sink.new).faults) }
+    ensures kept { OnErr result ((S.seen sink.new).written ≡ (S.seen sink.old).written) }
     ensures step { S.write_step sink.old sink.new }
 {
     sink.write(&bytes[from..])

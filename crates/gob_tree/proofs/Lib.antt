@@ -4,3 +4,5 @@ pub mod LabelReadings
 pub mod NamedLemmas
 pub mod StmtFolds
 pub mod WellMadeProofs
+pub mod WordLaws
+pub mod WordProofs

@@ -1,5 +1,6 @@
 //! What the slots of a function are called wherever they are shown.
-ghost use Rattle.std.specs.Prelude.{◌≡◌, ◌++◌, ◌<◌, ◌^◌, ◌≤◌, [], IfOk, OnOk, length};
+ghost use Rattle.std.specs.Prelude.{◌≡◌, ◌++◌, ◌<◌, ◌^◌, ◌≤◌, List, [], All, IfOk, IsUtf8, OnOk, length};
+ghost use Rattle.gob_tree.specs.Words.{AreNamedByWords};
 ghost use Rattle.gob_tree.specs.Labels as spec;
 
 use crate::memory::Memory;
@@ -21,6 +22,11 @@ pub fn slot_labels(alloc: Global, slots: &[Slot]) -> Result<Seq<Text>, Memory>
     }
     Ok(labels)
 }
+
+/// Where the slots are named by words, their labels are text.
+pub fn labels_are_text()
+    ensures { (slots : List Slot) → AreNamedByWords slots → All IsUtf8 (spec.labels_of slots) }
+{}
 
 fn push_labels(alloc: Global, labels: &mut Seq<Text>, named: &[Slot]) -> Result<(), Memory>
     ensures { OnOk result (labels.new ≡ labels.old ++ spec.labels_after [] named.now) }

@@ -1,8 +1,6 @@
-pub mod Accepting
 mod Answering
 pub mod Asked
-mod LoadWords
-pub mod Loads
+mod Loads
+mod Refusing
 pub mod Solving
-pub mod Telling
-pub mod Wanting
+mod Written

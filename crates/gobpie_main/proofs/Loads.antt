@@ -1,68 +1,36 @@
 -- What loads say.
-use Rattle.std.proofs.Common.{◌≡◌, refl, sym, ap, ◌∙◌, subst, ℕ, zero, suc, ◌<◌, ◌≤◌, ◌⊎◌, inl, inr, ⊎_elim, List, length, Option, None, Some, arith}
-use Rattle.std.specs.Prelude.{IfOk, IfSome, IsSomeAnd, Result, Ok, Err}
-use Rattle.std.specs.Global.{Vec}
-use Rattle.gob_outside.specs.Count.{Rose}
-use Rattle.gob_outside.specs.declared.files.FileFail.{FileFail}
-use Rattle.gob_outside.specs.declared.files.FileFail.TheVariants.{Failed, TooLong, Memory as NoMemory}
-use Rattle.gobpie_main.specs.Loading.{IsLoadOf, IsLoadOfNone}
-use Rattle.gobpie_main.specs.Outside.{TellsNone, TellsText}
+use Rattle.std.proofs.Common.{◌≡◌, refl, inr, subst, le_refl, ℕ, ◌+◌, ◌<◌, List, length, replicate, Option, None, Some, arith}
+use Rattle.std.specs.Prelude.{IfSome, IsSomeAnd}
+use Rattle.std.proofs.lemmas.List.{length-replicate}
+use Rattle.gob_outside.specs.Files.{FilesNow, IsLongerThan, IsTextOf}
+use Rattle.gobpie_main.specs.Loading.{AsksFor, LoadsText}
 
--- ---- a count that rose, before or after others that never fell
+-- ---- a file over the limit has a text over the limit, where the files tell none some text
 
-le_split : (m n : ℕ) → m ≤ n → (m < n) ⊎ (m ≡ n)
-le_split zero zero e = inr refl
-le_split zero (suc n) e = inl (omega arith)
-le_split (suc m) zero e = absurd (omega (arith, e))
-le_split (suc m) (suc n) e = ⊎_elim (λ lt. inl (omega (arith, lt))) (λ same. inr (ap suc same)) (le_split m n (omega (arith, e)))
+told_longer : (found : Option (List ℕ)) (limit : ℕ) → IsSomeAnd found (λ text. limit < length text) → (text : List ℕ) × (found ≡ Some text) × (limit < length text)
+told_longer None limit long = absurd long
+told_longer (Some text) limit long = (text, refl, long)
 
-pub rose_then : (a b c : ℕ) → Rose a b → b ≤ c → Rose a c
-rose_then a b c rose e =
-    ⊎_elim (λ lt. inl (omega (arith, lt, e)))
-    (λ full. ⊎_elim (λ lt. let f = full.0 in let g = full.1 in inl (omega (arith, lt, f, g))) (λ same. inr (full.0, sym same ∙ full.1)) (le_split b c e)) rose
+longer : (o : Option (List ℕ → Option (List ℕ))) (name : List ℕ) (limit : ℕ) → IfSome o (λ told. IsSomeAnd (told name) (λ text. limit < length text))
+    → (text : List ℕ) × IfSome o (λ told. told name ≡ Some text) × (limit < length text)
+longer None name limit long = (replicate (limit + 1) 0, tt, rw (length-replicate {A = ℕ} (limit + 1) 0) (omega arith))
+longer (Some told) name limit long = told_longer (told name) limit long
 
-pub then_rose : (a b c : ℕ) → a ≤ b → Rose b c → Rose a c
-then_rose a b c e rose =
-    ⊎_elim (λ lt. inl (omega (arith, lt, e)))
-    (λ full. ⊎_elim (λ lt. let f = full.0 in let g = full.1 in inl (omega (arith, lt, f, g))) (λ same. inr (same ∙ full.0, full.1)) (le_split a b e)) rose
+pub longer_loads : (files : FilesNow) (name : List ℕ) (limit : ℕ) → IsLongerThan files name limit → LoadsText files name limit None
+longer_loads files name limit long = longer files.contents name limit long
 
--- ---- what a load gave, by what the files tell
+-- ---- one load after another
 
-longer : (o : Option (List ℕ)) (text : List ℕ) (limit : ℕ) → IsSomeAnd o (λ bytes. limit < length bytes) → o ≡ Some text → limit < length text
-longer None text limit long is = absurd (cc is)
-longer (Some bytes) text limit long is = let same : bytes ≡ text = cc is in subst (λ (l : List ℕ). limit < length l) same long
+-- no load at all
+pub asks_nothing : (file : List ℕ) (files : FilesNow) → AsksFor file files files
+asks_nothing file files = record {
+  asked = inr refl;
+  others = λ other differs. refl;
+  never_fall = λ other. le_refl (files.faults other);
+  kept = refl;
+}
 
-some_same : (o : Option (List ℕ)) (bytes text : List ℕ) → o ≡ Some bytes → o ≡ Some text → bytes ≡ text
-some_same None bytes text e f = absurd (cc)
-some_same (Some l) bytes text e f = let first : l ≡ bytes = cc in let second : l ≡ text = cc in sym first ∙ second
-
-none_is_not_longer : (o : Option (List ℕ)) (limit : ℕ) → IsSomeAnd o (λ bytes. limit < length bytes) → o ≡ None → ⊥
-none_is_not_longer None limit long is = absurd long
-none_is_not_longer (Some bytes) limit long is = absurd (cc is)
-
-pub load_told : (o : Option (List ℕ → Option (List ℕ))) (name : List ℕ) (limit : ℕ) (r : Result (Vec ℕ) FileFail)
-    → IfOk r (λ bytes. IfSome o (λ files. files name ≡ Some bytes.items))
-    → ((most : ℕ) → r ≡ Err (TooLong most) → IfSome o (λ files. IsSomeAnd (files name) (λ bytes. limit < length bytes)))
-    → (text : List ℕ) → TellsText o name text → IsLoadOf limit r text
-load_told None name limit r loaded long text told = absurd told
-load_told (Some files) name limit (Ok bytes) loaded long text told = some_same (files name) bytes.items text loaded told
-load_told (Some files) name limit (Err Failed) loaded long text told = tt
-load_told (Some files) name limit (Err (TooLong most)) loaded long text told = longer (files name) text limit (long most refl) told
-load_told (Some files) name limit (Err NoMemory) loaded long text told = tt
-
-pub load_missing : (o : Option (List ℕ → Option (List ℕ))) (name : List ℕ) (limit : ℕ) (r : Result (Vec ℕ) FileFail)
-    → IfOk r (λ bytes. IfSome o (λ files. files name ≡ Some bytes.items))
-    → ((most : ℕ) → r ≡ Err (TooLong most) → IfSome o (λ files. IsSomeAnd (files name) (λ bytes. limit < length bytes)))
-    → TellsNone o name → IsLoadOfNone r
-load_missing None name limit r loaded long lacks = absurd lacks
-load_missing (Some files) name limit (Ok bytes) loaded long lacks = let is : files name ≡ Some bytes.items = loaded in absurd (cc)
-load_missing (Some files) name limit (Err Failed) loaded long lacks = tt
-load_missing (Some files) name limit (Err (TooLong most)) loaded long lacks = none_is_not_longer (files name) limit (long most refl) lacks
-load_missing (Some files) name limit (Err NoMemory) loaded long lacks = tt
-
--- a load that was refused for its length told of a text over the limit
-pub load_too_long : (limit : ℕ) (r : Result (Vec ℕ) FileFail) (most : ℕ) (text : List ℕ) → r ≡ Err (TooLong most) → IsLoadOf limit r text → limit < length text
-load_too_long limit (Ok bytes) most text is told = absurd (cc)
-load_too_long limit (Err Failed) most text is told = absurd (cc)
-load_too_long limit (Err (TooLong n)) most text is told = told
-load_too_long limit (Err NoMemory) most text is told = absurd (cc)
+-- a text that the second load found was there before the first
+pub text_before : (before between : FilesNow) (other file : List ℕ) (text : List ℕ) → AsksFor other before between → IsTextOf between file text → IsTextOf before file text
+text_before before between other file text first told =
+    subst (λ (o : Option (List ℕ → Option (List ℕ))). IfSome o (λ contents. contents file ≡ Some text)) first.kept told

@@ -17,7 +17,7 @@ use Rattle.td_solver.specs.declared.job.Solved.{Solved}
 use Rattle.tree_law.specs.Laws.{TreesAreShown}
 use Rattle.edition_core.specs.Printed.{printed}
 use Rattle.gobpie_main.specs.Analyse.{Completes, ShowsRuns, Spends}
-use Rattle.gobpie_main.specs.Loading.{IsAnalysable}
+use Rattle.c_source.specs.Sources.{IsAnalysable}
 
 -- every shaped post-solution of a source's program shows the runs of its text
 shown_by : TreesAreShown → (source : Source) (table : TableValue) → IsAnalysable source → IsShaped source.program table → IsPostSolution source.program table → ShowsRuns source table

@@ -1,32 +1,34 @@
 -- What the top call answers at words.
-use Rattle.std.specs.Prelude.{◌≡◌, ◌≢◌, ◌↔◌, ℕ, List, Some, None}
+use Rattle.std.specs.Prelude.{◌≡◌, ◌⊎◌, List, Option, Some, None, Err as Bad}
+use Rattle.gob_outside.specs.Files.{FilesNow}
+use Rattle.gob_outside.specs.Sink.{SinkNow}
 use Rattle.command_words.specs.Reading.{Word}
-use Rattle.command_words.specs.declared.line.CommandLine.{CommandLine}
-use Rattle.command_words.specs.declared.line.CommandLine.TheVariants.{Analyse, Run, Replay, Load, Debug, Serve}
 use Rattle.gobpie_main.specs.Analyse.{AnswersAnalyse}
 use Rattle.gobpie_main.specs.Command.{command_of}
-use Rattle.gobpie_main.specs.Lines.{memory_line, usage_line}
+use Rattle.gobpie_main.specs.Fault.{Answer}
 use Rattle.gobpie_main.specs.Load.{AnswersLoad}
-use Rattle.gobpie_main.specs.Outside.{Outside, Said, SameFiles}
-use Rattle.gobpie_main.specs.Run.{AnswersRun}
+use Rattle.gobpie_main.specs.Loading.{AsksFor}
+use Rattle.gobpie_main.specs.Run.{AnswersRun, AsksForBoth}
+use Rattle.gobpie_main.specs.Tell.{Tells}
+use Rattle.gobpie_main.specs.declared.fault.Fault.TheVariants.{Usage, Memory}
 use Rattle.gobpie_main.specs.declared.status.Status.{Status}
-use Rattle.gobpie_main.specs.declared.status.Status.TheVariants.{Usage, Memory}
+use Rattle.gobpie_main.specs.declared.words.BuiltCommand.{BuiltCommand}
+use Rattle.gobpie_main.specs.declared.words.BuiltCommand.TheVariants.{Analyse, Run, Load}
 
--- the status answers a line whose command is built
-abbrev pub AnswersLine : CommandLine → Status → Outside → Outside → Type 0
-AnswersLine (Analyse file budget) status before after = AnswersAnalyse file budget status before after
-AnswersLine (Run file schedule) status before after = AnswersRun file schedule status before after
-AnswersLine (Replay script) status before after = ⊥
-AnswersLine (Load number functions) status before after = SameFiles before after × AnswersLoad number functions status before.sink after.sink
-AnswersLine (Debug file budget) status before after = ⊥
-AnswersLine (Serve file hands rounds port budget) status before after = ⊥
+-- all that may be answered to what the words ask for, and which files are asked for; words without a
+-- reading get the usage, or want of memory
+abbrev pub Answers : Option BuiltCommand → Answer → FilesNow → FilesNow → Type 0
+Answers None answer before after = ((answer ≡ Bad Usage) ⊎ (answer ≡ Bad Memory)) × (after ≡ before)
+Answers (Some (Analyse file budget)) answer before after =
+    AnswersAnalyse file budget answer before after × AsksFor file before after
+Answers (Some (Run file schedule)) answer before after =
+    AnswersRun file schedule answer before after × AsksForBoth file schedule before after
+Answers (Some (Load number functions)) answer before after =
+    AnswersLoad number functions answer × (after ≡ before)
 
--- The status tells what is so of the words, and answers what they ask for: a clause a command.
-pub record AnswersWords (words : List Word) (status : Status) (before after : Outside) : Type 0 where
-  pub usage : status ≢ Memory → (status ≡ Usage) ↔ (command_of words ≡ None)
-  pub usage_said : status ≡ Usage → Said before.sink after.sink usage_line
-  pub untouched : command_of words ≡ None → SameFiles before after
-  pub analyse : (file : Word) (budget : ℕ) → command_of words ≡ Some (Analyse file budget) → AnswersAnalyse file budget status before after
-  pub run : (file schedule : Word) → command_of words ≡ Some (Run file schedule) → AnswersRun file schedule status before after
-  pub load : (number functions : ℕ) → command_of words ≡ Some (Load number functions) → SameFiles before after × AnswersLoad number functions status before.sink after.sink
-  pub memory_said : status ≡ Memory → Said before.sink after.sink memory_line
+-- what the words ask for was answered over the files, and the sink and the status tell the answer
+pub record AnswersWords (words : List Word) (status : Status)
+    (files files' : FilesNow) (sink sink' : SinkNow) : Type 0 where
+  pub answer : Answer
+  pub answers : Answers (command_of words) answer files files'
+  pub told : Tells answer status sink sink'

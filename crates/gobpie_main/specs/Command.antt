@@ -1,33 +1,28 @@
 -- The reading of words, cut to the commands that are built.
-use Rattle.std.specs.Prelude.{ℕ, ◌<◌, ◌≤◌, Bool, true, false, List, Option, Some, None, option_and_then, if◌then◌else◌}
+use Rattle.std.specs.Prelude.{List, Option, Some, None, option_and_then, IsUtf8}
 use Rattle.command_words.specs.Reading.{Word}
 use Rattle.command_words.specs.CommandLines.{command_reading}
 use Rattle.command_words.specs.declared.line.CommandLine.{CommandLine}
-use Rattle.command_words.specs.declared.line.CommandLine.TheVariants.{Analyse, Run, Replay, Load, Debug, Serve}
+use Rattle.command_words.specs.declared.line.CommandLine.TheVariants as lines
+use Rattle.gobpie_main.specs.Load.{IsFewFunctions}
+use Rattle.gobpie_main.specs.declared.words.BuiltCommand.{BuiltCommand}
+use Rattle.gobpie_main.specs.declared.words.BuiltCommand.TheVariants.{Analyse, Run, Load}
 
--- the commands that are built
-abbrev pub is_built : CommandLine → Bool
-is_built (Analyse file budget) = true
-is_built (Run file schedule) = true
-is_built (Replay script) = false
-is_built (Load number functions) = true
-is_built (Debug file budget) = false
-is_built (Serve file hands rounds port budget) = false
+-- the command that a line asks for, if it is built
+abbrev pub built_of : CommandLine → Option BuiltCommand
+built_of (lines.Analyse file budget) = Some (Analyse file budget)
+built_of (lines.Run file schedule) = Some (Run file schedule)
+built_of (lines.Replay script) = None
+built_of (lines.Load number functions) = Some (Load number functions)
+built_of (lines.Debug file budget) = None
+built_of (lines.Serve file hands rounds port budget) = None
 
 -- a command that isn't built yet has no reading
-abbrev pub command_of : List Word → Option CommandLine
-command_of words = option_and_then (λ line. if is_built line then Some line else None) (command_reading words)
+abbrev pub command_of : List Word → Option BuiltCommand
+command_of words = option_and_then built_of (command_reading words)
 
--- at least one function, and at most 120
-pub record IsFewFunctions (functions : ℕ) : Type 0 where
-  pub some : 0 < functions
-  pub few : functions ≤ 120
-
--- so many a generated program has
-abbrev pub HasFunctions : CommandLine → Type 0
-HasFunctions (Analyse file budget) = Unit {0}
-HasFunctions (Run file schedule) = Unit {0}
-HasFunctions (Replay script) = Unit {0}
-HasFunctions (Load number functions) = IsFewFunctions functions
-HasFunctions (Debug file budget) = Unit {0}
-HasFunctions (Serve file hands rounds port budget) = Unit {0}
+-- names of files are UTF-8, and a generated program has 1 to 120 functions
+abbrev pub IsProper : BuiltCommand → Type 0
+IsProper (Analyse file budget) = IsUtf8 file
+IsProper (Run file schedule) = IsUtf8 file × IsUtf8 schedule
+IsProper (Load number functions) = IsFewFunctions functions

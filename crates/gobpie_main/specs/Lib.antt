@@ -2,10 +2,9 @@ pub mod Analyse
 pub mod Arguments
 pub mod Batch
 pub mod Command
-pub mod Lines
+pub mod Fault
 pub mod Load
 pub mod Loading
-pub mod Numbers
-pub mod Outside
-pub mod Reports
 pub mod Run
+pub mod Status
+pub mod Tell

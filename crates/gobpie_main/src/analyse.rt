@@ -1,55 +1,68 @@
 //! The command `analyse`: the printed table of a file's program.
-ghost use Rattle.std.specs.Prelude.{◌≡◌, ◌≢◌, ℕ, List, take};
-ghost use Rattle.gob_outside.specs.Count.{Rose};
-ghost use Rattle.gobpie_main.specs.Analyse.{AnswersAnalyse, Completes, IsOfSource, Spends};
-ghost use Rattle.gobpie_main.specs.Lines.{memory_line, spent_line};
-ghost use Rattle.gobpie_main.specs.Loading.{IsAnalysable};
-ghost use Rattle.gobpie_main.specs.Outside.{Says, Wrote, outside, sink_now};
+ghost use Rattle.std.specs.Prelude.{◌≡◌, ◌++◌, ℕ, List, IfOk, IsUtf8, codes};
+ghost use Rattle.std.specs.Arc.{arc_value};
+ghost use Rattle.gob_tree.specs.Formed.{IsFormed};
+ghost use Rattle.c_check.specs.Front.{IsSourceOf};
+ghost use Rattle.constraint_sys.specs.Sound.{IsShaped};
+ghost use Rattle.edition_core.specs.Printed.{printed};
+ghost use Rattle.gobpie_main.specs.Analyse.{AnswersAnalyse, IsAnalysisOf};
+ghost use Rattle.gobpie_main.specs.Loading.{AsksFor, IsLoadOf};
 
-use crate::lines::{say, want_of_memory};
-use crate::loading::source_of;
-use crate::report::{Report, report_on};
-use crate::status::Status;
+use crate::fault::{Answer, Fault};
+use crate::loading::{load, source_in};
+use c_lex::TEXT_LIMIT;
 use c_source::Source;
-use gob_outside::{Files, Sink, write_all};
+use edition_core::print_table;
+use gob_outside::Files;
+use gob_tree::{Memory, Text};
 use std::alloc::Global;
+use td_solver::{Job, Outcome, Solved, solve};
+use tree_law::trees_are_shown;
 
-/// Loads the file and prints the table of its program, solved by at most `budget` turns.
-pub fn analyse<F: Files, O: Sink>(
-    alloc: Global,
-    name: &str,
-    budget: u64,
-    files: &mut F,
-    out: &mut O,
-) -> Status
-    ensures { AnswersAnalyse name.now budget result (outside F.contents F.faults F.asked O.written O.write_faults files.old out.old) (outside F.contents F.faults F.asked O.written O.write_faults files.new out.new) }
+/// The table of the file's program, solved by at most `budget` turns.
+pub fn analyse<F: Files>(alloc: Global, file: &Text, budget: u64, files: &mut F) -> Answer
+    requires { IsUtf8 file.now }
+    ensures answer { AnswersAnalyse file.now budget result (F.seen files.old) (F.seen files.new) }
+    ensures asks { AsksFor file.now (F.seen files.old) (F.seen files.new) }
 {
-    match source_of(alloc, name, files, out) {
-        Ok(source) => analyse_source(alloc, source, budget, out),
-        Err(status) => status,
+    let found = load(alloc, file, TEXT_LIMIT, files)?;
+    table_in(alloc, found, budget)
+}
+
+/// The table of a text that was loaded.
+fn table_in(alloc: Global, found: Option<Vec<u8>>, budget: u64) -> Answer
+    ensures { (text : List ℕ) → IsLoadOf TEXT_LIMIT text found → IsAnalysisOf text budget result }
+{
+    let source = source_in(alloc, found)?;
+    table_of(alloc, source, budget)
+}
+
+/// The table of a source's program, and `complete`.
+fn table_of(alloc: Global, source: Source, budget: u64) -> Answer
+    ensures { (text : List ℕ) → IsSourceOf text source → IsAnalysisOf text budget result }
+{
+    // the law by which a table shows the runs, and what it asks of a source
+    trees_are_shown();
+    source.is_analysable();
+    let job = Job::of(alloc, source)?;
+    match solve(alloc, job, budget) {
+        Outcome::Clean(solved) => {
+            let bytes = print_complete(alloc, &solved)?;
+            Ok(bytes)
+        }
+        Outcome::Spent(_run) => Err(Fault::Spent(budget)),
+        Outcome::Memory => Err(Fault::Memory),
     }
 }
 
-/// Analyses a source and writes what there is to say of it.
-fn analyse_source<O: Sink>(alloc: Global, source: Source, budget: u64, out: &mut O) -> Status
-    requires { IsAnalysable source }
-    ensures own { IsOfSource result }
-    ensures complete { result ≡ Status.Ok → (bytes : List ℕ) × Completes source budget bytes × Wrote (sink_now O.written O.write_faults out.old) (sink_now O.written O.write_faults out.new) bytes }
-    ensures cut_short { result ≡ Status.WriteFault → (bytes : List ℕ) × Completes source budget bytes × ((n : ℕ) × Wrote (sink_now O.written O.write_faults out.old) (sink_now O.written O.write_faults out.new) (take n bytes)) }
-    ensures spent { result ≡ Status.Spent → Spends source.program budget }
-    ensures write_fault { result ≡ Status.WriteFault → Rose (O.write_faults out.old) (O.write_faults out.new) }
-    ensures spent_said { result ≡ Status.Spent → Says O.written O.write_faults out.old out.new (spent_line budget) }
-    ensures memory_said { result ≡ Status.Memory → Says O.written O.write_faults out.old out.new memory_line }
+/// The printed table, and `complete`. `Memory` is want of memory.
+fn print_complete(alloc: Global, solved: &Solved) -> Result<Vec<u8>, Memory>
+    requires formed { IsFormed (arc_value solved.now.source).program }
+    requires shaped { IsShaped (arc_value solved.now.source).program solved.now.table }
+    ensures { IfOk result (λ bytes. bytes.items
+        ≡ printed (arc_value solved.now.source).program solved.now.table ++ codes "complete\n") }
 {
-    match report_on(alloc, source, budget) {
-        Ok(Report::Complete(bytes)) => match write_all(out, bytes.as_slice()) {
-            Ok(()) => Status::Ok,
-            Err(_) => Status::WriteFault,
-        },
-        Ok(Report::Spent(line)) => {
-            say(out, line.as_slice());
-            Status::Spent
-        }
-        Err(_) => want_of_memory(out),
-    }
+    let mut bytes = print_table(alloc, solved.source.program(), &solved.table)?;
+    bytes.extend_from_slice(b"complete\n")?;
+    Ok(bytes)
 }

@@ -14,7 +14,8 @@ pub trait Arguments {
     /// The argument at a place, of which the name has 0; `None` exactly where there is none.
     /// `Memory` is want of memory.
     fn argument(&self, alloc: Global, place: usize) -> Result<Option<Text>, Memory>
-        ensures { IfOk result (λ found. IfSome (told self.now) (λ all. found ≡ slice_get all place)) };
+        ensures { IfOk result (λ found. IfSome (told self.now)
+            (λ all. found ≡ slice_get all place)) };
 }
 
 /// The words: all arguments but the program's name, which isn't read. `Memory` is want of memory.

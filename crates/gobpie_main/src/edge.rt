@@ -1,20 +1,19 @@
 //! The edge between the system and the top call.
-ghost use Rattle.std.specs.Prelude.{◌≡◌, ℕ, List};
+ghost use Rattle.std.specs.Prelude.{◌≡◌, ◌↔◌, IfOk, IfSome, IsTrue, Some, codes, slice_get};
 ghost use Rattle.std.specs.Process.{exit_status};
-ghost use Rattle.gobpie_main.specs.Arguments.{IsWordsOf};
-ghost use Rattle.gobpie_main.specs.Batch.{AnswersWords};
-ghost use Rattle.gobpie_main.specs.Numbers.{number_of};
-ghost use Rattle.gobpie_main.specs.Outside.{outside};
-ghost use Rattle.gobpie_main.specs.declared.status.Status.{Status};
+ghost use Rattle.gobpie_main.specs.Arguments.{AnswersArguments};
+ghost use Rattle.gobpie_main.specs.Status.{exit_number};
 
 use crate::arguments::{Arguments, StdArguments, words_of};
 use crate::batch::run_batch;
-use crate::lines::want_of_memory;
+use crate::fault::Fault;
 use crate::status::Status;
+use crate::tell::tell;
 use gob_outside::{Files, Sink, StdFiles, StdOut};
+use gob_tree::Memory;
 use std::alloc::Global;
 use std::env::Env;
-use std::io::{self, Print};
+use std::io::Write;
 use std::process::ExitCode;
 use std::rt::Files as FileAccess;
 
@@ -25,28 +24,50 @@ pub fn run_arguments<A: Arguments, F: Files, O: Sink>(
     files: &mut F,
     out: &mut O,
 ) -> ExitCode
-    ensures { (words : List (List ℕ)) × (status : Status) × IsWordsOf (A.told arguments.now) words × (exit_status result ≡ number_of status)
-        × AnswersWords words status
-        (outside F.contents F.faults F.asked O.written O.write_faults files.old out.old)
-        (outside F.contents F.faults F.asked O.written O.write_faults files.new out.new) }
+    ensures { AnswersArguments (A.told arguments.now) (exit_status result)
+        (F.seen files.old) (F.seen files.new) (O.seen out.old) (O.seen out.new) }
 {
     match words_of(alloc, arguments) {
         Ok(words) => exit_code(run_batch(alloc, words.as_slice(), files, out)),
-        Err(_) => exit_code(want_of_memory(out)),
+        Err(Memory) => exit_code(tell(alloc, Err(Fault::Memory), out)),
     }
 }
 
 /// The exit code of a status: its number.
 fn exit_code(status: Status) -> ExitCode
-    ensures { exit_status result ≡ number_of status }
+    ensures { exit_status result ≡ exit_number status }
 {
     ExitCode::from(status.number())
 }
 
-/// The program, over the arguments, files and standard output of the system.
-pub fn program<R: Env + FileAccess + Print + AllocGlobal>(rt: &R) -> ExitCode {
+/// Whether the first word is `debug`. `Memory` is want of memory.
+fn is_debug<A: Arguments>(alloc: Global, arguments: &A) -> Result<bool, Memory>
+    ensures { IfOk result (λ is. IfSome (A.told arguments.now)
+        (λ all. IsTrue is ↔ (slice_get all 1 ≡ Some (codes "debug")))) }
+{
+    match arguments.argument(alloc, 1)? {
+        Some(word) => Ok(word.as_bytes() == b"debug".as_slice()),
+        None => Ok(false),
+    }
+}
+
+/// The program, over the arguments and files of the system. It writes to `out`; where the first word
+/// is `debug`, to `error`, since standard output is then the session's.
+pub fn program<R: Env + FileAccess + AllocGlobal, O: Write + Drop, E: Write + Drop>(
+    rt: &R,
+    out: O,
+    error: E,
+) -> ExitCode {
     let arguments = StdArguments::new(rt);
     let mut files = StdFiles::new(rt.alloc(), rt);
-    let mut out = StdOut::new(io::writer(rt));
-    run_arguments(rt.alloc(), &arguments, &mut files, &mut out)
+    match is_debug(rt.alloc(), &arguments) {
+        Ok(true) => {
+            let mut out = StdOut::new(error);
+            run_arguments(rt.alloc(), &arguments, &mut files, &mut out)
+        }
+        _ => {
+            let mut out = StdOut::new(out);
+            run_arguments(rt.alloc(), &arguments, &mut files, &mut out)
+        }
+    }
 }

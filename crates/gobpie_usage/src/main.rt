@@ -4,5 +4,5 @@
 use std::process::ExitCode;
 
 fn main(rt: HostRuntime) -> ExitCode {
-    gobpie_main::program(&rt)
+    gobpie_main::program(&rt, rt.stdout(), rt.stderr())
 }

@@ -13,3 +13,5 @@ mod inputs;
 mod loops;
 #[cfg(test)]
 mod plain;
+#[cfg(test)]
+mod whole;

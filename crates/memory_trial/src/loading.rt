@@ -12,11 +12,7 @@ use std::test::Fail;
 struct HeavyFiles {}
 
 impl Files for HeavyFiles {
-    ghost contents = { λ _. None };
-
-    ghost faults = { λ _ _. 0 };
-
-    ghost asked = { λ _. None };
+    ghost seen = { λ _. record { contents = None; faults = λ _. 0; asked = None } };
 
     fn load(&mut self, _alloc: Global, _name: &str, _limit: usize) -> Result<Vec<u8>, FileFail> {
         Err(FileFail::Memory)

@@ -1,7 +1,6 @@
 //! Schedules of choices, and the lines that a run of them prints.
 #![tactic(auto)]
 
-mod pieces;
 mod print;
 mod schedule;
 

@@ -8,9 +8,8 @@ ghost use Rattle.c_meaning.specs.Tree.{func_slots};
 ghost use Rattle.tree_run.specs.Viewing.{top_seen};
 ghost use Rattle.run_lines.specs.Lines as spec;
 
-use crate::pieces::{push_bytes, push_count, push_number};
 use c_meaning::{Choice, Stepped};
-use gob_tree::{Function, GlobalDecl, Memory, Seq, Text, Unit, slot_labels};
+use gob_tree::{Function, GlobalDecl, Memory, Seq, Text, Unit, push_bytes, push_number, push_signed, slot_labels};
 use std::alloc::Global;
 use tree_run::{Machine, RunEnd, TopView, run};
 
@@ -29,9 +28,9 @@ fn word_text(word: Stepped) -> &'static [u8]
 fn push_step(out: &mut Vec<u8>, number: u32, thread: u32, word: Stepped) -> Result<(), Memory>
     ensures { OnOk result (out.new.items ≡ out.old.items ++ spec.step_line number thread word) }
 {
-    push_count(out, number)?;
+    push_number(out, number as usize)?;
     push_bytes(out, b" ")?;
-    push_count(out, thread)?;
+    push_number(out, thread as usize)?;
     push_bytes(out, b" ")?;
     push_bytes(out, word_text(word))?;
     push_bytes(out, b"\n")
@@ -63,7 +62,7 @@ fn push_global(out: &mut Vec<u8>, name: &Text, number: i64) -> Result<(), Memory
     push_bytes(out, b"global ")?;
     push_bytes(out, name.as_bytes())?;
     push_bytes(out, b"=")?;
-    push_number(out, number)?;
+    push_signed(out, number)?;
     push_bytes(out, b"\n")
 }
 
@@ -85,7 +84,7 @@ fn push_slot(out: &mut Vec<u8>, label: &Text, number: i64) -> Result<(), Memory>
     push_bytes(out, b" ")?;
     push_bytes(out, label.as_bytes())?;
     push_bytes(out, b"=")?;
-    push_number(out, number)
+    push_signed(out, number)
 }
 
 fn push_slots(out: &mut Vec<u8>, labels: &[Text], values: &[i64]) -> Result<(), Memory>
@@ -134,9 +133,9 @@ fn push_top(out: &mut Vec<u8>, unit: &Unit, labels: &[Text], top: TopView<'_>) -
 {
     push_bytes(out, name_of(unit, top.func))?;
     push_bytes(out, b" ")?;
-    push_count(out, top.place.line)?;
+    push_number(out, top.place.line as usize)?;
     push_bytes(out, b":")?;
-    push_count(out, top.place.column)?;
+    push_number(out, top.place.column as usize)?;
     push_slots(out, labels, top.slots)
 }
 
@@ -152,7 +151,7 @@ fn push_thread(
     ensures { OnOk result (out.new.items ≡ out.old.items ++ spec.thread_line unit.now thread (option_map top_seen top.entry)) }
 {
     push_bytes(out, b"thread ")?;
-    push_count(out, thread)?;
+    push_number(out, thread as usize)?;
     match top {
         None => push_bytes(out, b" ended\n"),
         Some(top) => {

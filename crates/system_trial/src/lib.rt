@@ -8,6 +8,8 @@ mod by_hand;
 #[cfg(test)]
 mod contexts;
 #[cfg(test)]
+mod nothing;
+#[cfg(test)]
 mod seen;
 #[cfg(test)]
 mod start;

@@ -1,19 +1,9 @@
 //! Messages with their bytes, worked out by hand.
-ghost use Rattle.std.specs.Prelude.{IfOk};
 ghost use Rattle.dap_wire.specs.MessageTexts.{IsMessageText};
-ghost use Rattle.dap_wire.specs.Texts.{IsText};
 
+use crate::texts::text;
 use dap_wire::{BreakInfo, EventBody, Message, write_message};
-use gob_tree::{Memory, Text};
 use std::test::Fail;
-
-/// A text that a message may have.
-#[tactic(auto, using(dap_wire::proofs::TextFacts::utf8_text))]
-fn text(rt: &HostRuntime, words: &str) -> Result<Text, Memory>
-    ensures { IfOk result IsText }
-{
-    Text::of(rt.alloc(), words.as_bytes())
-}
 
 /// Whether a message is written as these bytes.
 fn is_written(rt: &HostRuntime, message: &Message, bytes: &str) -> bool

@@ -16,4 +16,4 @@ called-requires-clause-args c =
     let found : values_of slots state c.args.args.now ≡ Some vs = search rules in
     ap (λ (l : List Bounds). length l) c.as_slice.ensures.value
     ∙ length-values slots state c.args.args.now vs found
-    ∙ params_called (λ (g : FuncGraph). g.kind ≢ Thread) (slice_get c.args.program.now.funcs c.args.f) (length c.args.args.now) c.requires.callable
+    ∙ params_called (λ (g : FuncGraph). g.kind ≢ Thread) (slice_get c.args.program.now.funcs c.args.site.func) (length c.args.args.now) c.requires.callable

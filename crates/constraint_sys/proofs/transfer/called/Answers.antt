@@ -18,5 +18,5 @@ returned-requires-clause-exit c = λ s some.
     let callee = c.function_at-callee.result.now in
     let at : value_at c.args.table.now c.point-exit.result ≡ Some (State s) = sym c.get.ensures ∙ some in
     let here = subst (λ (u : Unknown). value_at c.args.table.now u ≡ Some (State s)) c.point-exit.ensures at in
-    let room = entry_room c.args.program.now c.args.table.now c.args.f callee c.key_of-key.result 1 s c.function_at-callee.ensures.is c.requires.shaped here in
+    let room = entry_room c.args.program.now c.args.table.now c.args.site.func callee c.key_of-key.result 1 s c.function_at-callee.ensures.is c.requires.shaped here in
     omega (arith, room, c.function_at-callee.ensures.formed.returned_and_params)

@@ -1,8 +1,12 @@
-use Rattle.gobpie_main.proofs.Loads.{load_missing, load_told}
+use Rattle.std.proofs.Common.{◌≡◌, List, ℕ, Err, subst}
+use Rattle.gob_outside.specs.Files.{IsLongerThan}
+use Rattle.gob_outside.specs.declared.files.FileFail.TheVariants.{TooLong}
+use Rattle.gobpie_main.proofs.Loads.{longer_loads}
 use Rattle.gobpie_main.proofs.loading.load.Goals as goal
 
-pub returns-clause-told : goal.returns-clause-told
-returns-clause-told g c = λ text told. load_told (g.F.Files.contents c.args.files.now) c.args.name.now c.args.limit c.load.result c.load.ensures.loaded c.load.ensures.too_long text told
-
-pub returns-clause-missing : goal.returns-clause-missing
-returns-clause-missing g c = λ lacks. load_missing (g.F.Files.contents c.args.files.now) c.args.name.now c.args.limit c.load.result c.load.ensures.loaded c.load.ensures.too_long lacks
+pub returns-in-Err-TooLong-clause-loaded : goal.returns-in-Err-TooLong-clause-loaded
+returns-in-Err-TooLong-clause-loaded g c =
+    let files = g.F.Files.seen c.args.files.now in
+    let is : c.load.result ≡ Err (TooLong c.in-Err-TooLong.field-0-0) = cc in
+    longer_loads files c.args.name.now c.args.limit
+    (subst (λ (n : List ℕ). IsLongerThan files n c.args.limit) c.in-Some.ensures.bytes (c.load.ensures.too_long c.in-Err-TooLong.field-0-0 is))

@@ -14,6 +14,7 @@ use Rattle.arg_chain.specs.Least.{IsLeastRoute, IsRoute}
 use Rattle.arg_chain.specs.Serving.{Served}
 use Rattle.arg_chain.specs.Walk.{Graph, IsGraph, IsTurned}
 use Rattle.arg_chain.proofs.LeastChains.{least_is_least, none_is_none}
+use Rattle.arg_chain.proofs.Tops.{least_top}
 use Rattle.arg_chain.proofs.calls.Calls.chain_to.Goals as goal
 
 pub least_route-requires-clause-graph : goal.least_route-requires-clause-graph
@@ -72,3 +73,6 @@ returns-in-None-clause-none c =
     let none_at_all = subst (λ (l : List ℕ). (root : ℕ) (steps : List Hop) → IsRoute rows l c.args.target root steps → ⊥) c.as_slice-roots.ensures.value over_rows in
     subst (λ (s : Served). (stack : StackValue) → IsChain s.program (vertices_in s.graph) (offered_in s.graph) c.args.v.now stack → ⊥) c.self.view_is
     (none_is_none vs (offered_in g) numbers rows ready.calls ready.graph.1.in_order c.args.target c.args.v.now at p roots ready.roots (offers_at_vertices p ready.graph.0 g ready.graph.1) none_at_all)
+
+pub returns-in_ok-stack-in-Some-clause-top : goal.returns-in_ok-stack-in-Some-clause-top
+returns-in_ok-stack-in-Some-clause-top c = least_top _ _ _ _ _ (returns-in_ok-stack-in-Some-clause-some c)

@@ -1,0 +1,3 @@
+//! One request of each command, and one message of each kind.
+mod messages;
+mod requests;
