@@ -1,7 +1,8 @@
 # What ./gobpie, .ci/run and the tools share; read by them, with the repository's top in $root.
 # A folder that holds the program holds three files: gobpie, the sum of its sources, and the kit's version.
 
-tell() { printf 'gobpie: %s\n' "$1" >&2; }
+# Says something on standard error, in the name of the script that runs.
+tell() { printf '%s: %s\n' "${0##*/}" "$1" >&2; }
 
 has_kit() { command -v rt >/dev/null; }
 

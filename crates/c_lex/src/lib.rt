@@ -7,8 +7,6 @@ mod fault;
 mod law;
 mod number;
 mod piece;
-#[cfg(test)]
-mod tests;
 mod token;
 mod utf8;
 

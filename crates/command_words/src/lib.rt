@@ -9,8 +9,6 @@ mod line;
 mod matches;
 mod number;
 mod said;
-#[cfg(test)]
-mod tests;
 
 pub use command::read_command;
 pub use laws::reading_is_spelled;

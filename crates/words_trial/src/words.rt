@@ -1,5 +1,4 @@
-use crate::command::read_command;
-use crate::line::CommandLine;
+use command_words::{CommandLine, read_command};
 use gob_tree::Text;
 use std::alloc::Global;
 use std::test::Fail;
