@@ -7,6 +7,8 @@ mod fault;
 mod law;
 mod number;
 mod piece;
+#[cfg(test)]
+mod tests;
 mod token;
 mod utf8;
 

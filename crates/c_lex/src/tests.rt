@@ -1,6 +1,6 @@
 //! Worked texts, each with the tokens or the fault that it has.
 
-use c_lex::{LexFault, Token, TokenKind, lex};
+use crate::{LexFault, Token, TokenKind, lex};
 use gob_tree::Place;
 use std::alloc::Global;
 use std::test::Fail;
