@@ -9,7 +9,10 @@ ghost use Rattle.tree_run.specs.Viewing.{top_seen};
 ghost use Rattle.run_lines.specs.Lines as spec;
 
 use c_meaning::{Choice, Stepped};
-use gob_tree::{Function, GlobalDecl, Memory, Seq, Text, Unit, push_bytes, push_number, push_signed, slot_labels};
+use gob_tree::{
+    Function, GlobalDecl, Memory, Seq, Text, Unit, push_bytes, push_number, push_signed,
+    slot_labels,
+};
 use std::alloc::Global;
 use tree_run::{Machine, RunEnd, TopView, run};
 
