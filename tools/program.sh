@@ -23,16 +23,19 @@ lines_of_program() {
         END { take("gobpie") }' "$root/crates.txt"
 }
 
-crates_of_program() { lines_of_program | sed 's/[ :].*//'; }
+crates_of_program() { lines_of_program | awk '{ sub(/[ :].*/, ""); print }'; }
 
 # One sum over these lines and the names and contents of all sources of these crates.
 sum_of_sources() (
     cd "$root" || exit 1
     {
         lines_of_program
-        crates_of_program | sed 's,.*,crates/&/src\ncrates/&/specs\ncrates/&/proofs,' \
-            | while read -r folder; do [ ! -d "$folder" ] || printf '%s\0' "$folder"; done \
-            | xargs -0 -r sh -c 'exec find "$@" -type f -print0' find | LC_ALL=C sort -z | xargs -0 -r sha256sum --
+        crates_of_program | while read -r crate; do
+            for part in src specs proofs; do
+                [ ! -d "crates/$crate/$part" ] || printf '%s\0' "crates/$crate/$part"
+            done
+        done | xargs -0 -r sh -c 'exec find "$@" -type f -print0' find \
+            | LC_ALL=C sort -z | xargs -0 -r sha256sum --
     } | sha256sum | cut -d' ' -f1
 )
 
